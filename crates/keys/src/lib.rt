@@ -1,0 +1,3 @@
+// Keys: how a community divides what its members feed among those that draw.
+pub mod key;
+pub mod sums;

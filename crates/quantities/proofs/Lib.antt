@@ -1,0 +1,4 @@
+pub mod Sums
+pub mod Division
+pub mod Parts
+pub mod Correction

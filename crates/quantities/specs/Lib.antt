@@ -1,0 +1,6 @@
+pub mod Sums
+pub mod Limits
+pub mod Refusals
+pub mod Cut
+pub mod Shares
+pub mod Optional

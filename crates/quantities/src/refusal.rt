@@ -1,0 +1,68 @@
+// Why a call refuses its input. Each reason has a fixed number, by which callers and files know it.
+ghost use Rattle.quantities.specs.Refusals.{number};
+ghost use mathlib.Core.Path.{_≡_};
+use std::fmt;
+
+#[derive(Clone, Copy, PartialEq, Eq, Debug)]
+pub enum Refusal {
+    WrongSheetLength = 1,
+    BytesEndInRecord = 2,
+    NoSuchPlace = 3,
+    NoSuchDay = 4,
+    NotAPeriod = 5,
+    ShareNotAllowed = 6,
+    RowFull = 7,
+    DoesNotFollow = 8,
+    OutsideSpan = 9,
+    RunOutsidePeriod = 10,
+    EmptyMap = 11,
+    RecordOutOfOrder = 12,
+    ReadingTooLarge = 13,
+    BitForZero = 14,
+    BytesAfterRecord = 15,
+    SheetDoesNotFit = 16,
+    SpanLacksDay = 17,
+    BufferTooShort = 18,
+    QuarterHoursLeft = 19,
+}
+
+impl Refusal {
+    pub fn code(self) -> u8
+        ensures { λ r. ⌜ r ≡ number self ⌝ }
+    {
+        self as u8
+    }
+
+    // The reason in words.
+    fn reason(self) -> &'static str {
+        match self {
+            Refusal::WrongSheetLength => "the sheet does not have 384 numbers",
+            Refusal::BytesEndInRecord => "the bytes end inside a record",
+            Refusal::NoSuchPlace => "a place is above 63",
+            Refusal::NoSuchDay => "a day is above 36,523",
+            Refusal::NotAPeriod => "the first day is after the last, or there are more than 366",
+            Refusal::ShareNotAllowed => "a share is above 1,000,000, or not 0 at a feeding place",
+            Refusal::RowFull => "the place's row in the register is full",
+            Refusal::DoesNotFollow => "the entry does not follow on the place's row",
+            Refusal::OutsideSpan => "the quarter hour is outside the meter source's days",
+            Refusal::RunOutsidePeriod => "the saved run's place is outside its period",
+            Refusal::EmptyMap => "a record has no reading",
+            Refusal::RecordOutOfOrder => "a record is not after the one before",
+            Refusal::ReadingTooLarge => "a reading is above 4,000,000",
+            Refusal::BitForZero => "a saved number is 0",
+            Refusal::BytesAfterRecord => "bytes follow the record",
+            Refusal::SheetDoesNotFit => "the sheet does not fit the run",
+            Refusal::SpanLacksDay => "the meter source lacks a day",
+            Refusal::BufferTooShort => "the buffer is too short",
+            Refusal::QuarterHoursLeft => "quarter hours are left",
+        }
+    }
+}
+
+pub impl fmt::Display for Refusal as RefusalDisplay {
+    fn fmt<W: fmt::Write>(&self, f: &mut fmt::Formatter<W>) -> fmt::Result {
+        let code = self.code();
+        let reason = self.reason();
+        write!(f, "refusal {code}: {reason}")
+    }
+}

@@ -1,0 +1,3 @@
+pub mod Balance
+pub mod Listed
+pub mod Steps

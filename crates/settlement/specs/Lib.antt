@@ -1,0 +1,3 @@
+pub mod Quarter
+pub mod Laws
+pub mod Rows
