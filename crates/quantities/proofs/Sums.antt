@@ -29,6 +29,12 @@ sum-same f g (suc n) h =
     let b = h n (omega arith) in
     omega arith
 
+-- terms of 0
+pub sum-zero : (f : ℕ → ℕ) (n : ℕ) → ((k : ℕ) → k < n → f k ≡ 0) → sum f n ≡ 0
+unfolding sum
+sum-zero f zero h = refl
+sum-zero f (suc n) h = omega (arith, sum-zero f n (λ k l. h k (omega arith)), h n (omega arith))
+
 -- no term above the other's
 pub sum-under : (f g : ℕ → ℕ) → ((k : ℕ) → f k ≤ g k) → (n : ℕ) → sum f n ≤ sum g n
 sum-under f g h zero = omega (arith, sum-none f)
@@ -47,6 +53,11 @@ sum-mono f m (suc n) h =
     ⊎-elim (λ (l : m < suc n). le-trans (sum-mono f m n (le-of-suc-le-suc l)) (omega (arith, sum-more f n)))
     (λ (l : suc n ≤ m). let e : m ≡ suc n = omega arith in omega (arith, ap (sum f) e))
     (cases-lt m (suc n))
+
+-- sums of sums
+pub sum-plus : (f g : ℕ → ℕ) (n : ℕ) → sum (λ k. f k + g k) n ≡ sum f n + sum g n
+sum-plus f g zero = omega (arith, sum-none (λ k. f k + g k), sum-none f, sum-none g)
+sum-plus f g (suc n) = omega (arith, sum-more (λ k. f k + g k) n, sum-more f n, sum-more g n, sum-plus f g n)
 
 -- differences
 pub sum-sub : (f g : ℕ → ℕ) → ((k : ℕ) → g k ≤ f k) → (n : ℕ) → sum (λ k. f k - g k) n + sum g n ≡ sum f n

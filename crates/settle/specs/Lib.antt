@@ -1,0 +1,4 @@
+pub mod Columns
+pub mod Left
+pub mod Two
+pub mod Working

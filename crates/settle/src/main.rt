@@ -1,0 +1,52 @@
+// Settles a day's profiles in two communities, one on the other, and prints what it does as it works.
+mod day;
+mod pile;
+mod profile;
+mod report;
+mod summary;
+mod table;
+mod working;
+
+use crate::day::DaySums;
+use crate::pile::Pile;
+use crate::profile::BadLineError;
+use crate::profile::Step;
+use std::env;
+use std::error::AnyError;
+use std::fs;
+
+const PROFILES: &str = "profiles.csv";
+
+// The file with the profiles: the first argument, or the one in the folder that the program is run in.
+fn profiles_path(rt: &LibcRuntime) -> Result<String, AnyError> {
+    match env::args(rt)?.nth(1) {
+        Some(path) => Ok(path),
+        None => Ok(String::from_str(rt.alloc(), PROFILES)?),
+    }
+}
+
+fn settle_day(rt: &LibcRuntime, pile: &Pile, steps: &[Step]) -> Result<DaySums, AnyError> {
+    let mut sums = DaySums::new();
+    for step in steps {
+        let Some(levels) = sums.work(pile, &step.readings) else {
+            return Err("the sums of the day are too large".into());
+        };
+        report::print_step(rt, pile, step, &levels)?;
+    }
+    Ok(sums)
+}
+
+fn run(rt: &LibcRuntime) -> Result<(), AnyError> {
+    let path = profiles_path(rt)?;
+    println!(rt, "Reading the profiles from {path}")?;
+    let text = fs::read_to_string(rt, path.as_str())?;
+    let steps = profile::parse(rt.alloc(), text.as_str())?;
+    let pile = Pile::of_profiles();
+    report::print_task(rt, &pile, steps.len())?;
+    let sums = settle_day(rt, &pile, steps.as_slice())?;
+    summary::print_day(rt, &sums, steps.len())
+}
+
+fn main(rt: LibcRuntime) -> Result<(), AnyError> {
+    rt.report(run(&rt))
+}

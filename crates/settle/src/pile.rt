@@ -1,0 +1,132 @@
+// Two communities, one on the other: the upper one settles what the lower one leaves.
+ghost use Rattle.keys.specs.Keys.{dynamic, static};
+ghost use Prim.Native.Nat.{_+_, _<_};
+ghost use Rattle.quantities.specs.Limits.{drawing, feeding, places};
+ghost use Rattle.quantities.specs.Sums.{sum};
+ghost use Rattle.settle.specs.Left.{leftWith};
+ghost use Rattle.settle.specs.Two.{Conserves-in-both, remainingRow, settledRow, sharesAt};
+ghost use Rattle.settlement.specs.Laws.{Conserves};
+ghost use Rattle.settlement.specs.Quarter.{entitlement};
+ghost use Rattle.settlement.specs.Rows.{at, row};
+ghost use mathlib.Core.Path.{_≡_};
+use keys::key::Dynamic;
+use keys::key::DynamicKey;
+use keys::key::Key;
+use keys::key::Static;
+use keys::key::StaticKey;
+use quantities::limits::DRAWING;
+use quantities::limits::FEEDING;
+use quantities::limits::PLACES;
+use settlement::quarter_hour::QuarterHour;
+
+// A quarter hour in one community: what the places had left, and what became of it.
+#[derive(Clone, Copy)]
+pub struct Level {
+    pub left: [u32; PLACES],
+    pub entitled: [u64; DRAWING],
+    pub settled: [u32; PLACES],
+    pub remainder: [u32; PLACES],
+}
+
+// The members of both communities, by their shares.
+#[derive(Clone, Copy)]
+pub struct Pile {
+    pub lower: [Option<u32>; PLACES],
+    pub upper: [Option<u32>; PLACES],
+}
+
+#[derive(Clone, Copy)]
+pub struct Levels {
+    pub lower: Level,
+    pub upper: Level,
+}
+
+fn settle_level<K: Key>(key: &K, shares: [Option<u32>; PLACES], left: [u32; PLACES]) -> Level
+    ensures left { λ r. ⌜ r .left ≡ left ⌝ }
+    ensures entitles { λ r. ⌜ r .entitled ≡ row drawing (entitlement (promised (now (key .entry))) (sharesAt shares) (at left)) ⌝ }
+    ensures settles { λ r. ⌜ r .settled ≡ settledRow (promised (now (key .entry))) shares left ⌝ }
+    ensures leaves { λ r. ⌜ r .remainder ≡ remainingRow (promised (now (key .entry))) shares left ⌝ }
+    ensures conserves { λ r. ⌜ Conserves (at left) (at (r .settled)) (at (r .remainder)) ⌝ }
+{
+    let hour = QuarterHour { shares, left };
+    let entitled = hour.entitlements(key);
+    let result = hour.settle(key);
+    let settled = result.settled;
+    let remainder = result.remainder;
+    Level {
+        left,
+        entitled,
+        settled,
+        remainder,
+    }
+}
+
+impl Pile {
+    // Lower community: n1 has 40 percent, n2 30, n3 20, and g1 feeds. Upper community: n4 and n5
+    // draw, g1 and g2 feed; its key looks at draws alone, so their shares are 0.
+    pub fn of_profiles() -> Pile {
+        let mut lower = [None; PLACES];
+        lower[0] = Some(400_000);
+        lower[1] = Some(300_000);
+        lower[2] = Some(200_000);
+        lower[DRAWING] = Some(0);
+        let mut upper = [None; PLACES];
+        upper[3] = Some(0);
+        upper[4] = Some(0);
+        upper[DRAWING] = Some(0);
+        upper[DRAWING + 1] = Some(0);
+        Pile { lower, upper }
+    }
+
+    // Settles one quarter hour's readings: by shares below, by draws above.
+    pub fn settle(&self, readings: &[u32; PLACES]) -> Levels
+        ensures lower { λ r. ⌜ r .lower .settled ≡ settledRow static (now (self .entry) .lower) (now (readings .entry)) ⌝ }
+        ensures between { λ r. ⌜ r .upper .left ≡ remainingRow static (now (self .entry) .lower) (now (readings .entry)) ⌝ }
+        ensures upper { λ r. ⌜ r .upper .settled ≡ settledRow dynamic (now (self .entry) .upper) (r .upper .left) ⌝ }
+        ensures leaves { λ r. ⌜ r .upper .remainder ≡ remainingRow dynamic (now (self .entry) .upper) (r .upper .left) ⌝ }
+        ensures conserves { λ r. ⌜ Conserves-in-both (now (readings .entry)) (r .lower .settled) (r .upper .settled) (r .upper .remainder) ⌝ }
+    {
+        let below = self.lower;
+        let lower = settle_level(&Static, below, *readings);
+        let above = self.upper;
+        let left = lower.remainder;
+        let upper = settle_level(&Dynamic, above, left);
+        Levels { lower, upper }
+    }
+
+    // What remains with a member of either community; 0 with any other place.
+    fn left_with(&self, place: usize, rest: &[u32; PLACES]) -> u32
+        requires { ⌜ place < places ⌝ }
+        ensures { λ r. ⌜ r ≡ leftWith (now (self .entry)) (now (rest .entry)) place ⌝ }
+    {
+        let below = self.lower[place];
+        let above = self.upper[place];
+        if below.is_some() || above.is_some() {
+            rest[place]
+        } else {
+            0
+        }
+    }
+
+    // What the supplier still delivers to the members that draw.
+    pub fn supplied(&self, rest: &[u32; PLACES]) -> u64
+        ensures { λ r. ⌜ r ≡ sum (leftWith (now (self .entry)) (now (rest .entry))) drawing ⌝ }
+    {
+        let mut total: u64 = 0;
+        for place in 0..DRAWING {
+            total += self.left_with(place, rest) as u64;
+        }
+        total
+    }
+
+    // What is left over with the members that feed.
+    pub fn surplus(&self, rest: &[u32; PLACES]) -> u64
+        ensures { λ r. ⌜ r ≡ sum (λ i. leftWith (now (self .entry)) (now (rest .entry)) (drawing + i)) feeding ⌝ }
+    {
+        let mut total: u64 = 0;
+        for i in 0..FEEDING {
+            total += self.left_with(DRAWING + i, rest) as u64;
+        }
+        total
+    }
+}

@@ -1,0 +1,135 @@
+// What is printed of the task and of each step.
+ghost use Prim.Native.Nat.{_<_};
+ghost use Rattle.quantities.specs.Limits.{places};
+use crate::pile::Level;
+use crate::pile::Levels;
+use crate::pile::Pile;
+use crate::profile::DRAWERS;
+use crate::profile::FEEDERS;
+use crate::profile::Step;
+use crate::table::Cell;
+use crate::table::grouped;
+use crate::table::headings;
+use crate::table::line;
+use crate::table::percent;
+use crate::table::point;
+use quantities::limits::DRAWING;
+use quantities::limits::PLACES;
+use std::alloc::AllocError;
+use std::alloc::Global;
+use std::error::AnyError;
+
+// The name of a member's metering point, with its share where the key divides by it.
+fn member(heap: Global, place: usize, share: u32, by_share: bool) -> Result<String, AllocError> {
+    let name = point(heap, place)?;
+    if by_share && place < DRAWING {
+        let share = percent(heap, share)?;
+        format!(heap, "{name} {share}")
+    } else {
+        Ok(name)
+    }
+}
+
+fn members(
+    heap: Global,
+    shares: &[Option<u32>; PLACES],
+    by_share: bool,
+) -> Result<String, AllocError> {
+    let mut text = String::new(heap);
+    for place in 0..PLACES {
+        let share = shares[place];
+        if let Some(share) = share {
+            if !text.is_empty() {
+                text.push_str(", ")?;
+            }
+            let name = member(heap, place, share, by_share)?;
+            text.push_str(name.as_str())?;
+        }
+    }
+    Ok(text)
+}
+
+pub fn print_task(rt: &LibcRuntime, pile: &Pile, steps: usize) -> Result<(), AnyError> {
+    let heap = rt.alloc();
+    let lower = members(heap, &pile.lower, true)?;
+    let upper = members(heap, &pile.upper, false)?;
+    println!(
+        rt,
+        "{steps} quarter hours of {DRAWERS} drawing and {FEEDERS} feeding metering points, in watt hours (Wh)"
+    )?;
+    println!(rt, "Lower community, static key:  {lower}")?;
+    println!(rt, "Upper community, dynamic key: {upper}")?;
+    Ok(())
+}
+
+// A member's line: its reading, what the communities below have left of it, and what becomes of that.
+fn print_member(
+    rt: &LibcRuntime,
+    place: usize,
+    readings: &[u32; PLACES],
+    level: &Level,
+) -> Result<(), AnyError>
+    requires { ⌜ place < places ⌝ }
+{
+    let entitlement = if place < DRAWING {
+        Cell::Amount(level.entitled[place])
+    } else {
+        Cell::Absent
+    };
+    let cells = [
+        Cell::Amount(readings[place] as u64),
+        Cell::Amount(level.left[place] as u64),
+        entitlement,
+        Cell::Amount(level.settled[place] as u64),
+        Cell::Amount(level.remainder[place] as u64),
+    ];
+    let heap = rt.alloc();
+    let name = point(heap, place)?;
+    rt.println(line(heap, name.as_str(), &cells)?)?;
+    Ok(())
+}
+
+fn print_level(
+    rt: &LibcRuntime,
+    name: &str,
+    shares: &[Option<u32>; PLACES],
+    readings: &[u32; PLACES],
+    level: &Level,
+) -> Result<(), AnyError> {
+    let columns = [
+        "Reading Wh",
+        "Left below Wh",
+        "Entitlement Wh",
+        "Settled Wh",
+        "Remainder Wh",
+    ];
+    rt.println(headings(rt.alloc(), name, &columns)?)?;
+    for place in 0..PLACES {
+        let share = shares[place];
+        if share.is_some() {
+            print_member(rt, place, readings, level)?;
+        }
+    }
+    Ok(())
+}
+
+// What a step comes to in both communities, and what is then left with their members.
+pub fn print_step(
+    rt: &LibcRuntime,
+    pile: &Pile,
+    step: &Step,
+    levels: &Levels,
+) -> Result<(), AnyError> {
+    let number = step.number;
+    println!(rt, "\nStep {number}")?;
+    print_level(rt, "Lower", &pile.lower, &step.readings, &levels.lower)?;
+    print_level(rt, "Upper", &pile.upper, &step.readings, &levels.upper)?;
+    let heap = rt.alloc();
+    let supplied = grouped(heap, pile.supplied(&levels.upper.remainder))?;
+    let surplus = grouped(heap, pile.surplus(&levels.upper.remainder))?;
+    println!(
+        rt,
+        "  The supplier delivers {supplied} Wh; surplus {surplus} Wh"
+    )?;
+    Ok(())
+}
