@@ -122,8 +122,20 @@ pub fn print_step(
 ) -> Result<(), AnyError> {
     let number = step.number;
     println!(rt, "\nStep {number}")?;
-    print_level(rt, "Lower", &pile.lower, &step.readings, &levels.lower)?;
-    print_level(rt, "Upper", &pile.upper, &step.readings, &levels.upper)?;
+    print_level(
+        rt,
+        "Lower community",
+        &pile.lower,
+        &step.readings,
+        &levels.lower,
+    )?;
+    print_level(
+        rt,
+        "Upper community",
+        &pile.upper,
+        &step.readings,
+        &levels.upper,
+    )?;
     let heap = rt.alloc();
     let supplied = grouped(heap, pile.supplied(&levels.upper.remainder))?;
     let surplus = grouped(heap, pile.surplus(&levels.upper.remainder))?;

@@ -55,10 +55,10 @@ fn shown(heap: Global, cell: Cell) -> Result<String, AllocError> {
 
 // A line of a table: the label on the left, the cells at the right ends of their columns.
 pub fn line(heap: Global, label: &str, cells: &[Cell]) -> Result<String, AllocError> {
-    let mut text = format!(heap, "  {label:<10}")?;
+    let mut text = format!(heap, "  {label:<16}")?;
     for cell in cells {
         let amount = shown(heap, *cell)?;
-        let padded = format!(heap, "{amount:>16}")?;
+        let padded = format!(heap, "{amount:>15}")?;
         text.push_str(padded.as_str())?;
     }
     Ok(text)
@@ -66,9 +66,9 @@ pub fn line(heap: Global, label: &str, cells: &[Cell]) -> Result<String, AllocEr
 
 // The headings of a table, at the right ends of their columns.
 pub fn headings(heap: Global, label: &str, names: &[&str]) -> Result<String, AllocError> {
-    let mut text = format!(heap, "  {label:<10}")?;
+    let mut text = format!(heap, "  {label:<16}")?;
     for name in names {
-        let padded = format!(heap, "{name:>16}")?;
+        let padded = format!(heap, "{name:>15}")?;
         text.push_str(padded.as_str())?;
     }
     Ok(text)

@@ -154,14 +154,10 @@ impl QuarterHour {
         ensures settles { λ r. ⌜ r .settled ≡ row places (settled (promised (now (key .entry))) (shareIn (now (self .entry))) (leftIn (now (self .entry)))) ⌝ }
         ensures leaves { λ r. ⌜ r .remainder ≡ row places (remaining (promised (now (key .entry))) (shareIn (now (self .entry))) (leftIn (now (self .entry)))) ⌝ }
         ensures conserves { λ r. ⌜ Conserves (leftIn (now (self .entry))) (at (r .settled)) (at (r .remainder)) ⌝ }
+        ensures laws { λ _. ⌜ Settlement-laws ⌝ }
     {
         let settled = self.settled_amounts(key);
         let remainder = self.remainders(&settled);
         Settlement { settled, remainder }
     }
 }
-
-// Whatever the key, as long as it keeps its law: a settlement conserves.
-pub fn settlement_laws()
-    ensures { λ _. ⌜ Settlement-laws ⌝ }
-{}

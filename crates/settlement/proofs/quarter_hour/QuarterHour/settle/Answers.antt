@@ -2,7 +2,7 @@ use native.Mathlib.Omega.{arith}
 use Rattle.quantities.specs.Limits.{places}
 use Rattle.settlement.specs.Quarter.{settled}
 use Rattle.settlement.specs.Rows.{shareIn, leftIn}
-use Rattle.settlement.proofs.Balance.{whole-place}
+use Rattle.settlement.proofs.Balance.{whole-place, settlement-laws}
 use Rattle.settlement.proofs.Listed.{row-at}
 use Rattle.settlement.proofs.Steps.{remaining-row, conserves-rows}
 use Rattle.settlement.proofs.quarter_hour.QuarterHour.settle.Needs as need
@@ -22,4 +22,5 @@ returns g c =
       settles = c .settled-amounts-settled .ensures;
       leaves = r;
       conserves = conserves-rows _ law _ _ _ _ (c .settled-amounts-settled .ensures) r;
+      laws = settlement-laws;
     }

@@ -29,7 +29,7 @@ unfolding fed-by
 fed-next c = sum-next _ _ _ _ (c .loop-i .inv .0) (feed-is c)
 
 surplus-next : (c : After-cut-up-to-after) → c .cut-up-to-after .result ≡ cutUpTo (c .args .surplus) (fed-by c) (c .args .generation) (c .loop-i .i + 1)
-surplus-next c = cut-next _ (fed-by c) _ (c .loop-i .i) _ _ (fed-next c) (c .cut-up-to-after .ensures)
+surplus-next c = cut-next _ (fed-by c) _ (c .loop-i .i) _ _ (fed-next c) (c .cut-up-to-after .ensures .value)
 
 surplus-before : (c : After-cut-up-to-after) → c .loop-i .before ≡ cutUpTo (c .args .surplus) (fed-by c) (c .args .generation) (c .loop-i .i)
 unfolding fed-by
