@@ -44,9 +44,9 @@ inRange P running whole =
     && leb (whole .share) share-sum-limit && leb (whole .draw) draw-sum-limit
 
 -- by the shares: P × running share / M, where M is the whole share, or 1,000,000 where that is larger
-unfoldable pub static : KeyMeaning
+abbrev pub static : KeyMeaning
 static P running whole = cond (inRange P running whole) (P * running .share / max (whole .share) whole-share) 0
 
 -- by the draws: what can be used, × running draw / whole draw; a quotient by 0 is 0
-unfoldable pub dynamic : KeyMeaning
+abbrev pub dynamic : KeyMeaning
 dynamic P running whole = cond (inRange P running whole) (min P (whole .draw) * running .draw / whole .draw) 0

@@ -6,7 +6,7 @@ use native.Mathlib.Omega.{arith}
 use lib.Dec.{ltb}
 use Rattle.std.proofs.shelf.Tests.{lt-ltb, le-ltb, cond-true, cond-false}
 use Rattle.quantities.specs.Limits.{whole-share}
-use Rattle.quantities.specs.Shares.{corrected, Nearest}
+use Rattle.quantities.specs.Shares.{nearest, corrected, Nearest}
 use Rattle.quantities.proofs.Division.{rounded}
 
 module _ (share total : ℕ) where
@@ -14,12 +14,12 @@ module _ (share total : ℕ) where
   unfolding corrected
   corrected-within h = rw (cond-false (ltb whole-share total) _ _ (le-ltb whole-share total h))
 
-  pub corrected-above : whole-share < total → (2 * (share * whole-share) + total) / (2 * total) ≡ corrected share total
+  pub corrected-above : whole-share < total → nearest (share * whole-share) total ≡ corrected share total
   unfolding corrected
   corrected-above h = rw (cond-true (ltb whole-share total) _ _ (lt-ltb whole-share total h))
 
   -- a correction never raises a share
-  pub corrected-le : whole-share < total → (2 * (share * whole-share) + total) / (2 * total) ≤ share
+  pub corrected-le : whole-share < total → nearest (share * whole-share) total ≤ share
   corrected-le h =
       let less : share * whole-share ≤ share * total = mul-le-mul-left share (omega arith) in
       let twice : (share + 1) * (2 * total) ≡ 2 * (share * total) + 2 * total = omega arith in
@@ -27,7 +27,7 @@ module _ (share total : ℕ) where
       omega arith
 
 -- halves up: a quotient with half a divisor more in its dividend, rounded down
-pub nearest : (n d : ℕ) → 0 < d → Nearest n d ((2 * n + d) / (2 * d))
-nearest n d h =
+pub nearest-is : (n d : ℕ) → 0 < d → Nearest n d (nearest n d)
+nearest-is n d h =
     let r = rounded (2 * n + d) (2 * d) (omega arith) in
-    record { not-above = r .0; not-below = omega (arith, r .1, mul-add (2 * d) ((2 * n + d) / (2 * d)) 1) }
+    record { not-above = r .0; not-below = omega (arith, r .1, mul-add (2 * d) (nearest n d) 1) }

@@ -73,12 +73,12 @@ impl QuarterHour {
         whole
     }
 
-    // What the key entitles each drawing place to: its promise with the place less that before it.
-    pub fn entitlements<K: Key>(&self, key: &K) -> [u64; DRAWING]
+    // Goes through the drawing places with the key, given what it divides and the whole sums.
+    fn entitle<K: Key>(&self, key: &K, generation: u64, whole: Sums) -> [u64; DRAWING]
+        requires generation { ⌜ generation ≡ generated (shareIn (now self)) (leftIn (now self)) ⌝ }
+        requires whole { ⌜ whole ≡ sumsUpTo (shareIn (now self)) (leftIn (now self)) drawing ⌝ }
         ensures { λ r. ⌜ r ≡ row drawing (entitlement (promised (now (key .entry))) (shareIn (now (self .entry))) (leftIn (now (self .entry)))) ⌝ }
     {
-        let generation = self.generation();
-        let whole = self.whole_sums();
         let mut running = Sums { share: 0, draw: 0 };
         let mut before: u64 = 0;
         let mut entitled = [0; DRAWING];
@@ -90,6 +90,15 @@ impl QuarterHour {
             before = after;
         }
         entitled
+    }
+
+    // What the key entitles each drawing place to: its promise with the place less that before it.
+    pub fn entitlements<K: Key>(&self, key: &K) -> [u64; DRAWING]
+        ensures { λ r. ⌜ r ≡ row drawing (entitlement (promised (now (key .entry))) (shareIn (now (self .entry))) (leftIn (now (self .entry)))) ⌝ }
+    {
+        let generation = self.generation();
+        let whole = self.whole_sums();
+        self.entitle(key, generation, whole)
     }
 
     // Settles the drawing places, and sums up what they settle. The feeding places stay as they are.

@@ -12,8 +12,8 @@ use Rattle.quantities.proofs.Sums.{sum-none, sum-next}
 use Rattle.settlement.proofs.Balance.{upTo-none}
 use Rattle.settlement.proofs.Listed.{row-from}
 use Rattle.settlement.proofs.Steps.{sums-are, promised-next, promise-grown, entitlement-next}
-use Rattle.settlement.proofs.quarter_hour.QuarterHour.entitlements.Given.{Over}
-use Rattle.settlement.proofs.quarter_hour.QuarterHour.entitlements.Needs as need
+use Rattle.settlement.proofs.quarter_hour.QuarterHour.entitle.Given.{Over}
+use Rattle.settlement.proofs.quarter_hour.QuarterHour.entitle.Needs as need
 
 -- the sums and the key's answer, with this place
 shares-next : (g : Over) (c : need.After-promise-after g) → c .loop-place .running .share + c .share .result ≡ sum (shares (shareIn (c .args .self .now))) (c .loop-place .place + 1)
@@ -26,8 +26,8 @@ draws-next g c = sum-next _ _ _ _ (c .loop-place .inv .1) (c .brought .ensures)
 
 answer-next : (g : Over) (c : need.After-promise-after g) → c .promise-after .result ≡ promisedUpTo (g .K·Key .promised (c .args .key .now)) (shareIn (c .args .self .now)) (leftIn (c .args .self .now)) (c .loop-place .place + 1)
 answer-next g c =
-    promised-next _ _ _ (c .loop-place .place) _ _ _ _ (c .generation-generation .ensures)
-    (sums-are _ _ (c .loop-place .place + 1) _ _ (shares-next g c) (draws-next g c)) (c .whole-sums-whole .ensures)
+    promised-next _ _ _ (c .loop-place .place) _ _ _ _ (c .pre .generation)
+    (sums-are _ _ (c .loop-place .place + 1) _ _ (shares-next g c) (draws-next g c)) (c .pre .whole)
     (c .promise-after .ensures)
 
 pub loop-place-holds : need.loop-place-holds

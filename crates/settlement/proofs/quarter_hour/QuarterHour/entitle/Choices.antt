@@ -5,7 +5,7 @@ use Rattle.quantities.specs.Limits.{drawing}
 use Rattle.quantities.specs.Sums.{sum}
 use Rattle.settlement.specs.Quarter.{shares, draws, promisedUpTo, entitlement}
 use Rattle.settlement.specs.Rows.{at, shareIn, leftIn}
-use Rattle.settlement.proofs.quarter_hour.QuarterHour.entitlements.Given as given
+use Rattle.settlement.proofs.quarter_hour.QuarterHour.entitle.Given as given
 
 abbrev pub Inv-loop-place : given.InvT-loop-place
 Inv-loop-place g l =
