@@ -33,23 +33,24 @@ impl Refusal {
         self as u8
     }
 
-    // The reason in words.
+    // The reason in words. They may change; the number may not.
     fn reason(self) -> &'static str {
         match self {
-            Refusal::WrongSheetLength => "the sheet does not have 384 numbers",
+            Refusal::WrongSheetLength => "the sheet has another length",
             Refusal::BytesEndInRecord => "the bytes end inside a record",
-            Refusal::NoSuchPlace => "a place is above 63",
-            Refusal::NoSuchDay => "a day is above 36,523",
-            Refusal::NotAPeriod => "the first day is after the last, or there are more than 366",
-            Refusal::ShareNotAllowed => "a share is above 1,000,000, or not 0 at a feeding place",
+            Refusal::NoSuchPlace => "there is no such place",
+            Refusal::NoSuchDay => "there is no such day",
+            Refusal::NotAPeriod => "the days are out of order, or too many",
+            Refusal::ShareNotAllowed =>
+                "a share is above the whole, or not zero at a feeding place",
             Refusal::RowFull => "the place's row in the register is full",
             Refusal::DoesNotFollow => "the entry does not follow on the place's row",
             Refusal::OutsideSpan => "the quarter hour is outside the meter source's days",
             Refusal::RunOutsidePeriod => "the saved run's place is outside its period",
             Refusal::EmptyMap => "a record has no reading",
             Refusal::RecordOutOfOrder => "a record is not after the one before",
-            Refusal::ReadingTooLarge => "a reading is above 4,000,000",
-            Refusal::BitForZero => "a saved number is 0",
+            Refusal::ReadingTooLarge => "a reading is above its limit",
+            Refusal::BitForZero => "a bit stands for a saved number of zero",
             Refusal::BytesAfterRecord => "bytes follow the record",
             Refusal::SheetDoesNotFit => "the sheet does not fit the run",
             Refusal::SpanLacksDay => "the meter source lacks a day",

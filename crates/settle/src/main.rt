@@ -9,7 +9,6 @@ mod working;
 
 use crate::day::DaySums;
 use crate::pile::Pile;
-use crate::profile::BadLineError;
 use crate::profile::Step;
 use std::env;
 use std::error::AnyError;
@@ -48,5 +47,9 @@ fn run(rt: &LibcRuntime) -> Result<(), AnyError> {
 }
 
 fn main(rt: LibcRuntime) -> Result<(), AnyError> {
-    rt.report(run(&rt))
+    let result = run(&rt);
+    if let Err(fault) = &result {
+        let _ = eprintln!(rt, "settle: {fault}");
+    }
+    result
 }

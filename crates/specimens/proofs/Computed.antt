@@ -4,13 +4,12 @@ use Prim.Native.Nat.{ℕ}
 use Rattle.quantities.specs.Sums.{sum}
 use Rattle.quantities.specs.Cut.{part, cutUpTo}
 use Rattle.quantities.specs.Shares.{corrected}
-use Rattle.keys.specs.Keys.{static, dynamic}
 use Rattle.settlement.specs.Quarter.{shares, draws, feeds, generated, sumsUpTo, promisedUpTo, entitlement, drawSettled, used, feedRemaining, feedSettled, settled, remaining}
 use Rattle.specimens.specs.Specimens.{Specimens, TwoCommunities, Overfull, Halves}
 
 -- all that a settlement computes with
 computes : ℕ
-unfolding sum part cutUpTo corrected static dynamic shares draws feeds generated sumsUpTo promisedUpTo entitlement drawSettled used feedRemaining feedSettled settled remaining
+unfolding sum part cutUpTo corrected shares draws feeds generated sumsUpTo promisedUpTo entitlement drawSettled used feedRemaining feedSettled settled remaining
 computes = 0
 
 two-communities : TwoCommunities
