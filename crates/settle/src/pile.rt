@@ -4,7 +4,7 @@ ghost use Prim.Native.Nat.{_+_, _<_};
 ghost use Rattle.quantities.specs.Limits.{drawing, feeding, places};
 ghost use Rattle.quantities.specs.Sums.{sum};
 ghost use Rattle.settle.specs.Left.{leftWith};
-ghost use Rattle.settle.specs.Two.{Conserves-in-both, remainingRow, settledRow, sharesAt};
+ghost use Rattle.settle.specs.Two.{Conserves-in-both, lowerMembers, remainingRow, settledRow, sharesAt, upperMembers};
 ghost use Rattle.settlement.specs.Laws.{Conserves};
 ghost use Rattle.settlement.specs.Quarter.{entitlement};
 ghost use Rattle.settlement.specs.Rows.{at, row};
@@ -64,7 +64,10 @@ fn settle_level<K: Key>(key: &K, shares: [Option<u32>; PLACES], left: [u32; PLAC
 impl Pile {
     // Lower community: n1 has 40 percent, n2 30, n3 20, and g1 feeds. Upper community: n4 and n5
     // draw, g1 and g2 feed; its key looks at draws alone, so their shares are 0.
-    pub fn of_profiles() -> Pile {
+    pub fn of_profiles() -> Pile
+        ensures lower { λ r. ⌜ r .lower ≡ lowerMembers ⌝ }
+        ensures upper { λ r. ⌜ r .upper ≡ upperMembers ⌝ }
+    {
         let mut lower = [None; PLACES];
         lower[0] = Some(400_000);
         lower[1] = Some(300_000);
