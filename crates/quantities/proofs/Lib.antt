@@ -1,4 +1,5 @@
 pub mod Sums
 pub mod Division
 pub mod Parts
+pub mod Listed
 pub mod Correction

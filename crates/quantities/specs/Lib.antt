@@ -3,4 +3,5 @@ pub mod Limits
 pub mod Refusals
 pub mod Cut
 pub mod Shares
+pub mod Rows
 pub mod Optional

@@ -3,7 +3,7 @@ ghost use Rattle.quantities.specs.Refusals.{number};
 ghost use mathlib.Core.Path.{_≡_};
 use std::fmt;
 
-#[derive(Clone, Copy, PartialEq, Eq, Debug)]
+#[derive(Clone, Copy, Debug)]
 pub enum Refusal {
     WrongSheetLength = 1,
     BytesEndInRecord = 2,

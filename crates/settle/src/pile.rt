@@ -1,13 +1,13 @@
 // Two communities, one on the other: the upper one settles what the lower one leaves.
 ghost use Rattle.keys.specs.Keys.{dynamic, static};
-ghost use Prim.Native.Nat.{_+_, _<_};
-ghost use Rattle.quantities.specs.Limits.{drawing, feeding, places};
+ghost use Prim.Native.Nat.{_+_, _<_, _≤_};
+ghost use Rattle.quantities.specs.Limits.{drawing, places};
 ghost use Rattle.quantities.specs.Sums.{sum};
 ghost use Rattle.settle.specs.Left.{leftWith};
-ghost use Rattle.settle.specs.Two.{Conserves-in-both, lowerMembers, remainingRow, settledRow, sharesAt, upperMembers};
+ghost use Rattle.settle.specs.Two.{Conserves-in-both, lowerMembers, remainingRow, settledRow, upperMembers};
 ghost use Rattle.settlement.specs.Laws.{Conserves};
 ghost use Rattle.settlement.specs.Quarter.{entitlement};
-ghost use Rattle.settlement.specs.Rows.{at, row};
+ghost use Rattle.quantities.specs.Rows.{at, maybeAt, row};
 ghost use mathlib.Core.Path.{_≡_};
 use keys::key::Dynamic;
 use keys::key::DynamicKey;
@@ -15,7 +15,6 @@ use keys::key::Key;
 use keys::key::Static;
 use keys::key::StaticKey;
 use quantities::limits::DRAWING;
-use quantities::limits::FEEDING;
 use quantities::limits::PLACES;
 use settlement::quarter_hour::QuarterHour;
 
@@ -43,7 +42,7 @@ pub struct Levels {
 
 fn settle_level<K: Key>(key: &K, shares: [Option<u32>; PLACES], left: [u32; PLACES]) -> Level
     ensures left { λ r. ⌜ r .left ≡ left ⌝ }
-    ensures entitles { λ r. ⌜ r .entitled ≡ row drawing (entitlement (promised (now (key .entry))) (sharesAt shares) (at left)) ⌝ }
+    ensures entitles { λ r. ⌜ r .entitled ≡ row drawing (entitlement (promised (now (key .entry))) (maybeAt shares) (at left)) ⌝ }
     ensures settles { λ r. ⌜ r .settled ≡ settledRow (promised (now (key .entry))) shares left ⌝ }
     ensures leaves { λ r. ⌜ r .remainder ≡ remainingRow (promised (now (key .entry))) shares left ⌝ }
     ensures conserves { λ r. ⌜ Conserves (at left) (at (r .settled)) (at (r .remainder)) ⌝ }
@@ -111,24 +110,14 @@ impl Pile {
         }
     }
 
-    // What the supplier still delivers to the members that draw.
-    pub fn supplied(&self, rest: &[u32; PLACES]) -> u64
-        ensures { λ r. ⌜ r ≡ sum (leftWith (now (self .entry)) (now (rest .entry))) drawing ⌝ }
+    // What remains with the members at so many places from the first on.
+    pub fn left_with_members(&self, rest: &[u32; PLACES], first: usize, count: usize) -> u64
+        requires { ⌜ first + count ≤ places ⌝ }
+        ensures { λ r. ⌜ r ≡ sum (λ i. leftWith (now (self .entry)) (now (rest .entry)) (first + i)) count ⌝ }
     {
         let mut total: u64 = 0;
-        for place in 0..DRAWING {
-            total += self.left_with(place, rest) as u64;
-        }
-        total
-    }
-
-    // What is left over with the members that feed.
-    pub fn surplus(&self, rest: &[u32; PLACES]) -> u64
-        ensures { λ r. ⌜ r ≡ sum (λ i. leftWith (now (self .entry)) (now (rest .entry)) (drawing + i)) feeding ⌝ }
-    {
-        let mut total: u64 = 0;
-        for i in 0..FEEDING {
-            total += self.left_with(DRAWING + i, rest) as u64;
+        for i in 0..count {
+            total += self.left_with(first + i, rest) as u64;
         }
         total
     }

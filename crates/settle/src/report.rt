@@ -9,11 +9,11 @@ use crate::profile::FEEDERS;
 use crate::profile::Step;
 use crate::table::Cell;
 use crate::table::grouped;
-use crate::table::headings;
 use crate::table::line;
 use crate::table::percent;
 use crate::table::point;
 use quantities::limits::DRAWING;
+use quantities::limits::FEEDING;
 use quantities::limits::PLACES;
 use std::alloc::AllocError;
 use std::alloc::Global;
@@ -97,13 +97,13 @@ fn print_level(
     level: &Level,
 ) -> Result<(), AnyError> {
     let columns = [
-        "Reading Wh",
-        "Left below Wh",
-        "Entitlement Wh",
-        "Settled Wh",
-        "Remainder Wh",
+        Cell::Heading("Reading Wh"),
+        Cell::Heading("Left below Wh"),
+        Cell::Heading("Entitlement Wh"),
+        Cell::Heading("Settled Wh"),
+        Cell::Heading("Remainder Wh"),
     ];
-    rt.println(headings(rt.alloc(), name, &columns)?)?;
+    rt.println(line(rt.alloc(), name, &columns)?)?;
     for place in 0..PLACES {
         let share = shares[place];
         if share.is_some() {
@@ -137,8 +137,9 @@ pub fn print_step(
         &levels.upper,
     )?;
     let heap = rt.alloc();
-    let supplied = grouped(heap, pile.supplied(&levels.upper.remainder))?;
-    let surplus = grouped(heap, pile.surplus(&levels.upper.remainder))?;
+    let rest = &levels.upper.remainder;
+    let supplied = grouped(heap, pile.left_with_members(rest, 0, DRAWING))?;
+    let surplus = grouped(heap, pile.left_with_members(rest, DRAWING, FEEDING))?;
     println!(
         rt,
         "  The supplier delivers {supplied} Wh; surplus {surplus} Wh"

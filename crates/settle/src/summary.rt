@@ -6,7 +6,6 @@ use crate::profile::DRAWERS;
 use crate::profile::FEEDERS;
 use crate::table::Cell;
 use crate::table::grouped;
-use crate::table::headings;
 use crate::table::line;
 use crate::table::point;
 use quantities::limits::DRAWING;
@@ -59,6 +58,17 @@ fn print_points(
     Ok(())
 }
 
+fn print_headings(rt: &LibcRuntime, points: &str, remainder: &'static str) -> Result<(), AnyError> {
+    let columns = [
+        Cell::Heading("Metered Wh"),
+        Cell::Heading("Lower Wh"),
+        Cell::Heading("Upper Wh"),
+        Cell::Heading(remainder),
+    ];
+    rt.println(line(rt.alloc(), points, &columns)?)?;
+    Ok(())
+}
+
 // What a community settled, from both sides.
 fn print_balance(rt: &LibcRuntime, name: &str, settled: &[u64; PLACES]) -> Result<(), AnyError> {
     let heap = rt.alloc();
@@ -74,13 +84,10 @@ fn print_balance(rt: &LibcRuntime, name: &str, settled: &[u64; PLACES]) -> Resul
 }
 
 pub fn print_day(rt: &LibcRuntime, sums: &DaySums, steps: usize) -> Result<(), AnyError> {
-    let heap = rt.alloc();
     println!(rt, "\nThe sums of {steps} quarter hours")?;
-    let drawing = ["Metered Wh", "Lower Wh", "Upper Wh", "Supplier Wh"];
-    rt.println(headings(heap, "Drawing", &drawing)?)?;
+    print_headings(rt, "Drawing", "Supplier Wh")?;
     print_points(rt, sums, 0, DRAWERS)?;
-    let feeding = ["Metered Wh", "Lower Wh", "Upper Wh", "Surplus Wh"];
-    rt.println(headings(heap, "Feeding", &feeding)?)?;
+    print_headings(rt, "Feeding", "Surplus Wh")?;
     print_points(rt, sums, DRAWING, FEEDERS)?;
     println!(rt)?;
     print_balance(rt, "Lower", &sums.lower)?;

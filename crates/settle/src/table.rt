@@ -6,6 +6,7 @@ use std::alloc::Global;
 // One cell of a table.
 #[derive(Clone, Copy)]
 pub enum Cell {
+    Heading(&'static str),
     Amount(u64),
     Absent,
 }
@@ -48,6 +49,7 @@ pub fn point(heap: Global, place: usize) -> Result<String, AllocError> {
 
 fn shown(heap: Global, cell: Cell) -> Result<String, AllocError> {
     match cell {
+        Cell::Heading(name) => String::from_str(heap, name),
         Cell::Amount(amount) => grouped(heap, amount),
         Cell::Absent => String::from_str(heap, "-"),
     }
@@ -59,16 +61,6 @@ pub fn line(heap: Global, label: &str, cells: &[Cell]) -> Result<String, AllocEr
     for cell in cells {
         let amount = shown(heap, *cell)?;
         let padded = format!(heap, "{amount:>15}")?;
-        text.push_str(padded.as_str())?;
-    }
-    Ok(text)
-}
-
-// The headings of a table, at the right ends of their columns.
-pub fn headings(heap: Global, label: &str, names: &[&str]) -> Result<String, AllocError> {
-    let mut text = format!(heap, "  {label:<16}")?;
-    for name in names {
-        let padded = format!(heap, "{name:>15}")?;
         text.push_str(padded.as_str())?;
     }
     Ok(text)

@@ -14,11 +14,11 @@ use Rattle.keys.specs.declared.sums.Sums.{Sums}
 use Rattle.keys.specs.Keys.{KeyMeaning, KeyLaw}
 use Rattle.settlement.specs.Quarter.{shares, draws, feeds, generated, sumsUpTo, promisedUpTo, entitlement, drawSettled, used, feedRemaining, feedSettled, settled, remaining}
 use Rattle.settlement.specs.Laws.{Conserves}
-use Rattle.settlement.specs.Rows.{at, row}
+use Rattle.quantities.specs.Rows.{at, row}
 use Rattle.quantities.proofs.Sums.{sum-same}
 use Rattle.quantities.proofs.Parts.{cut-grows}
 use Rattle.settlement.proofs.Balance.{upTo-grows, settled-drawing, settled-feeding, whole-place, settlement-laws}
-use Rattle.settlement.proofs.Listed.{row-at, row-same}
+use Rattle.quantities.proofs.Listed.{row-at, row-same}
 
 pub sums-are : (share : ℕ → Option ℕ) (left : ℕ → ℕ) (p s d : ℕ) → s ≡ sum (shares share) p → d ≡ sum (draws share left) p → _≡_ {A = Sums} (record { share = s; draw = d }) (sumsUpTo share left p)
 unfolding sumsUpTo

@@ -7,10 +7,10 @@ use lib.ListN.{length, length-set}
 use lib.Seq.{getD-set-same, getD-set-other}
 use Rattle.quantities.specs.Sums.{sum}
 use Rattle.settlement.specs.Quarter.{shares, draws, promisedUpTo}
-use Rattle.settlement.specs.Rows.{shareIn, leftIn}
+use Rattle.settlement.specs.Held.{shareIn, leftIn}
 use Rattle.quantities.proofs.Sums.{sum-none, sum-next}
 use Rattle.settlement.proofs.Balance.{upTo-none}
-use Rattle.settlement.proofs.Listed.{row-from}
+use Rattle.quantities.proofs.Listed.{row-from}
 use Rattle.settlement.proofs.Steps.{sums-are, promised-next, promise-grown, entitlement-next}
 use Rattle.settlement.proofs.quarter_hour.QuarterHour.entitle.Given.{Over}
 use Rattle.settlement.proofs.quarter_hour.QuarterHour.entitle.Needs as need

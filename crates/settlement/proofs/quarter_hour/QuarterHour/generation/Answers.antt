@@ -4,7 +4,7 @@ use Rattle.quantities.specs.Limits.{feeding}
 use Rattle.quantities.specs.Sums.{sum}
 use Rattle.quantities.proofs.Sums.{sum-none, sum-next}
 use Rattle.settlement.specs.Quarter.{feeds, generated}
-use Rattle.settlement.specs.Rows.{shareIn, leftIn}
+use Rattle.settlement.specs.Held.{shareIn, leftIn}
 use Rattle.settlement.proofs.quarter_hour.QuarterHour.generation.Needs as need
 
 pub loop-i-holds : need.loop-i-holds

@@ -1,5 +1,5 @@
 use native.Mathlib.Omega.{arith}
-use Rattle.settlement.proofs.Listed.{row-from}
+use Rattle.quantities.proofs.Listed.{row-from}
 use Rattle.settlement.proofs.quarter_hour.QuarterHour.remainders.Needs as need
 
 pub returns : need.returns

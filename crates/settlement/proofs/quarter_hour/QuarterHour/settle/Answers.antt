@@ -1,9 +1,9 @@
 use native.Mathlib.Omega.{arith}
 use Rattle.quantities.specs.Limits.{places}
 use Rattle.settlement.specs.Quarter.{settled}
-use Rattle.settlement.specs.Rows.{shareIn, leftIn}
+use Rattle.settlement.specs.Held.{shareIn, leftIn}
 use Rattle.settlement.proofs.Balance.{whole-place, settlement-laws}
-use Rattle.settlement.proofs.Listed.{row-at}
+use Rattle.quantities.proofs.Listed.{row-at}
 use Rattle.settlement.proofs.Steps.{remaining-row, conserves-rows}
 use Rattle.settlement.proofs.quarter_hour.QuarterHour.settle.Needs as need
 

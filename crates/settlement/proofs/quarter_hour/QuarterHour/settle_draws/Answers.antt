@@ -8,7 +8,8 @@ use lib.Seq.{getD-set-same, getD-set-other}
 use Rattle.quantities.specs.Limits.{drawing}
 use Rattle.quantities.specs.Sums.{sum}
 use Rattle.settlement.specs.Quarter.{draws}
-use Rattle.settlement.specs.Rows.{at, shareIn, leftIn}
+use Rattle.quantities.specs.Rows.{at}
+use Rattle.settlement.specs.Held.{shareIn, leftIn}
 use Rattle.quantities.proofs.Sums.{sum-none, sum-next}
 use Rattle.settlement.proofs.quarter_hour.QuarterHour.settle_draws.Needs as need
 

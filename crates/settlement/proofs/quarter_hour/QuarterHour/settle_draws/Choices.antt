@@ -4,7 +4,8 @@ use lib.ListN.{length}
 use Rattle.quantities.specs.Limits.{drawing}
 use Rattle.quantities.specs.Sums.{sum}
 use Rattle.settlement.specs.Quarter.{draws}
-use Rattle.settlement.specs.Rows.{at, shareIn, leftIn}
+use Rattle.quantities.specs.Rows.{at}
+use Rattle.settlement.specs.Held.{shareIn, leftIn}
 use Rattle.settlement.proofs.quarter_hour.QuarterHour.settle_draws.Given as given
 
 abbrev pub Inv-loop-place : given.InvT-loop-place

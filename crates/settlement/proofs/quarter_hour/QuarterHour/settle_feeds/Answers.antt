@@ -9,7 +9,7 @@ use Rattle.quantities.specs.Limits.{drawing}
 use Rattle.quantities.specs.Sums.{sum}
 use Rattle.quantities.specs.Cut.{cutUpTo, part}
 use Rattle.settlement.specs.Quarter.{feeds}
-use Rattle.settlement.specs.Rows.{shareIn, leftIn}
+use Rattle.settlement.specs.Held.{shareIn, leftIn}
 use Rattle.quantities.proofs.Sums.{sum-none, sum-next}
 use Rattle.quantities.proofs.Parts.{cut-none, part-le}
 use Rattle.settlement.proofs.Steps.{cut-next, part-next, cut-grown}

@@ -4,7 +4,8 @@ use Rattle.quantities.specs.Limits.{drawing}
 use Rattle.quantities.specs.Sums.{sum}
 use Rattle.quantities.specs.Cut.{cutUpTo, part}
 use Rattle.settlement.specs.Quarter.{feeds}
-use Rattle.settlement.specs.Rows.{at, shareIn, leftIn}
+use Rattle.quantities.specs.Rows.{at}
+use Rattle.settlement.specs.Held.{shareIn, leftIn}
 use Rattle.settlement.proofs.quarter_hour.QuarterHour.settle_feeds.Given as given
 
 abbrev pub Inv-loop-i : given.InvT-loop-i

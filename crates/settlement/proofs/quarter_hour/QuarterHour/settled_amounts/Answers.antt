@@ -1,7 +1,7 @@
 use native.Mathlib.Omega.{arith}
-use Rattle.settlement.specs.Rows.{shareIn, leftIn}
+use Rattle.settlement.specs.Held.{shareIn, leftIn}
 use Rattle.settlement.proofs.Balance.{used-le}
-use Rattle.settlement.proofs.Listed.{row-from}
+use Rattle.quantities.proofs.Listed.{row-from}
 use Rattle.settlement.proofs.Steps.{used-is, settled-all}
 use Rattle.settlement.proofs.quarter_hour.QuarterHour.settled_amounts.Needs as need
 

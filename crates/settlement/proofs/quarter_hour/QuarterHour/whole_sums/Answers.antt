@@ -3,7 +3,7 @@ use native.Mathlib.Omega.{arith}
 use Rattle.quantities.specs.Limits.{drawing}
 use Rattle.quantities.proofs.Sums.{sum-none, sum-next}
 use Rattle.settlement.specs.Quarter.{shares, draws, sumsUpTo}
-use Rattle.settlement.specs.Rows.{shareIn, leftIn}
+use Rattle.settlement.specs.Held.{shareIn, leftIn}
 use Rattle.settlement.proofs.Steps.{sums-are}
 use Rattle.settlement.proofs.quarter_hour.QuarterHour.whole_sums.Needs as need
 

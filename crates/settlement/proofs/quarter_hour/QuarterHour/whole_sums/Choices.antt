@@ -2,7 +2,7 @@ use mathlib.Core.Path.{_≡_}
 use Prim.Native.Nat.{_≤_, _*_}
 use Rattle.quantities.specs.Sums.{sum}
 use Rattle.settlement.specs.Quarter.{shares, draws}
-use Rattle.settlement.specs.Rows.{shareIn, leftIn}
+use Rattle.settlement.specs.Held.{shareIn, leftIn}
 use Rattle.settlement.proofs.quarter_hour.QuarterHour.whole_sums.Given as given
 
 abbrev pub Inv-loop-place : given.InvT-loop-place

@@ -5,7 +5,7 @@ use Prim.Native.Nat.{ℕ, _<_}
 use native.Mathlib.Omega.{arith}
 use lib.ListN.{length}
 use Rattle.std.proofs.shelf.Counted.{getD-map-counting, length-map-counting, fill-by-all}
-use Rattle.settlement.specs.Rows.{at, row}
+use Rattle.quantities.specs.Rows.{at, row}
 
 -- the number of a row at a place
 pub row-at : (n : ℕ) (f : ℕ → ℕ) (xs : List ℕ) → xs ≡ row n f → (p : ℕ) → p < n → at xs p ≡ f p

@@ -1,7 +1,7 @@
 use mathlib.Core.Path.{sym}
 use native.Mathlib.Omega.{arith}
 use Rattle.quantities.proofs.Sums.{sum-none, sum-next}
-use Rattle.settle.proofs.pile.Pile.surplus.Needs as need
+use Rattle.settle.proofs.pile.Pile.left_with_members.Needs as need
 
 pub loop-i-holds : need.loop-i-holds
 loop-i-holds c = (sym (sum-none _), omega arith)
