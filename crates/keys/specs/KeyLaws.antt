@@ -1,7 +1,7 @@
 -- The two keys keep the law of keys. Assumes nothing.
 use mathlib.Core.Path.{_≡_, refl}
 use mathlib.Core.Bool.{Bool, true, false, cond}
-use Prim.Native.Nat.{ℕ, _*_, _≤_, min, max, zero-le}
+use Prim.Native.Nat.{ℕ, _≤_, min, max, zero-le}
 use native.Mathlib.Nat.{le-trans, le-of-eq, mul-zero, zero-div, mul-le-mul-left, div-le-of-le-mul, mul-comm, le-max-left, min-le-left}
 use Rattle.std.proofs.shelf.Tests.{le-leb}
 use Rattle.quantities.specs.Limits.{whole-share}

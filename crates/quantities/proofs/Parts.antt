@@ -1,6 +1,6 @@
 -- Laws of the running cut. Assumes nothing.
 use mathlib.Core.Path.{_≡_, _∙_, ap}
-use Prim.Native.Nat.{ℕ, suc, _+_, _-_, _*_, _/_, _≤_, _<_}
+use Prim.Native.Nat.{ℕ, suc, _+_, _*_, _≤_, _<_}
 use native.Mathlib.Nat.{zero-div, mul-zero, mul-add, mul-le-mul-left, mul-div-cancel}
 use native.Mathlib.Omega.{arith}
 use Rattle.quantities.specs.Sums.{sum}

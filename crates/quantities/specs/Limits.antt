@@ -1,5 +1,5 @@
 -- The limits. Assumes nothing.
-use Prim.Native.Nat.{ℕ, _*_}
+use Prim.Native.Nat.{ℕ}
 
 -- the largest reading of a quarter hour, in watt hours
 abbrev pub reading-limit : ℕ

@@ -1,6 +1,5 @@
 // How a quarter hour is settled in a community, with any key that keeps its law.
 ghost use Prim.Native.Nat.{ℕ, _+_, _-_, _<_, _≤_, min};
-ghost use Rattle.keys.specs.declared.sums.Sums.{Sums};
 ghost use Rattle.quantities.specs.Cut.{part};
 ghost use Rattle.quantities.specs.Optional.{or-zero};
 ghost use Rattle.quantities.specs.Limits.{drawing, feeding, places};
