@@ -1,4 +1,5 @@
 pub mod Columns
 pub mod Left
 pub mod Two
+pub mod Settled
 pub mod Working

@@ -1,13 +1,12 @@
 // Two communities, one on the other: the upper one settles what the lower one leaves.
-ghost use Rattle.keys.specs.Keys.{dynamic, static};
 ghost use Prim.Native.Nat.{_+_, _<_, _≤_};
-ghost use Rattle.quantities.specs.Limits.{drawing, places};
+ghost use Rattle.quantities.specs.Limits.{places};
+ghost use Rattle.quantities.specs.Rows.{at};
 ghost use Rattle.quantities.specs.Sums.{sum};
 ghost use Rattle.settle.specs.Left.{leftWith};
-ghost use Rattle.settle.specs.Two.{Conserves-in-both, lowerMembers, remainingRow, settledRow, upperMembers};
+ghost use Rattle.settle.specs.Settled.{SettledIn, SettledInBoth};
+ghost use Rattle.settle.specs.Two.{Conserves-in-both, lowerMembers, upperMembers};
 ghost use Rattle.settlement.specs.Laws.{Conserves};
-ghost use Rattle.settlement.specs.Quarter.{entitlement};
-ghost use Rattle.quantities.specs.Rows.{at, maybeAt, row};
 ghost use mathlib.Core.Path.{_≡_};
 use keys::key::Dynamic;
 use keys::key::DynamicKey;
@@ -41,10 +40,7 @@ pub struct Levels {
 }
 
 fn settle_level<K: Key>(key: &K, shares: [Option<u32>; PLACES], left: [u32; PLACES]) -> Level
-    ensures left { λ r. ⌜ r .left ≡ left ⌝ }
-    ensures entitles { λ r. ⌜ r .entitled ≡ row drawing (entitlement (promised (now (key .entry))) (maybeAt shares) (at left)) ⌝ }
-    ensures settles { λ r. ⌜ r .settled ≡ settledRow (promised (now (key .entry))) shares left ⌝ }
-    ensures leaves { λ r. ⌜ r .remainder ≡ remainingRow (promised (now (key .entry))) shares left ⌝ }
+    ensures settles { λ r. ⌜ SettledIn (promised (now (key .entry))) shares left r ⌝ }
     ensures conserves { λ r. ⌜ Conserves (at left) (at (r .settled)) (at (r .remainder)) ⌝ }
 {
     let hour = QuarterHour { shares, left };
@@ -82,10 +78,7 @@ impl Pile {
 
     // Settles one quarter hour's readings: by shares below, by draws above.
     pub fn settle(&self, readings: &[u32; PLACES]) -> Levels
-        ensures lower { λ r. ⌜ r .lower .settled ≡ settledRow static (now (self .entry) .lower) (now (readings .entry)) ⌝ }
-        ensures between { λ r. ⌜ r .upper .left ≡ remainingRow static (now (self .entry) .lower) (now (readings .entry)) ⌝ }
-        ensures upper { λ r. ⌜ r .upper .settled ≡ settledRow dynamic (now (self .entry) .upper) (r .upper .left) ⌝ }
-        ensures leaves { λ r. ⌜ r .upper .remainder ≡ remainingRow dynamic (now (self .entry) .upper) (r .upper .left) ⌝ }
+        ensures settles { λ r. ⌜ SettledInBoth (now (self .entry)) (now (readings .entry)) r ⌝ }
         ensures conserves { λ r. ⌜ Conserves-in-both (now (readings .entry)) (r .lower .settled) (r .upper .settled) (r .upper .remainder) ⌝ }
     {
         let below = self.lower;
