@@ -5,3 +5,4 @@ pub mod Cut
 pub mod Shares
 pub mod Rows
 pub mod Optional
+pub mod Checks

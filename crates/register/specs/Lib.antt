@@ -1,0 +1,5 @@
+pub mod Rows
+pub mod Calls
+pub mod Shares
+pub mod Effects
+pub mod Memberships
