@@ -13,8 +13,3 @@ unless (fault ∷ faults) a = cond (fault .1) (Err (fault .0)) (unless faults a)
 abbrev pub ifAccepted : {A B E : Type 0} → Result A E → B → B → B
 ifAccepted (Ok a) then otherwise = then
 ifAccepted (Err e) then otherwise = otherwise
-
--- something that holds after an accepted call
-abbrev pub If-accepted : {A E : Type 0} → Result A E → Type 0 → Type 0
-If-accepted (Ok a) P = P
-If-accepted (Err e) P = Unit {0}

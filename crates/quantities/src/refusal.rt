@@ -1,6 +1,7 @@
 // Why a call refuses its input. Each reason has a fixed number, by which callers and files know it.
 ghost use Rattle.quantities.specs.Refusals.{number};
 ghost use mathlib.Core.Path.{_≡_};
+use std::error::Error;
 use std::fmt;
 
 #[derive(Clone, Copy, Debug)]
@@ -67,3 +68,5 @@ pub impl fmt::Display for Refusal as RefusalDisplay {
         write!(f, "refusal {code}: {reason}")
     }
 }
+
+pub impl Error for Refusal as RefusalError {}

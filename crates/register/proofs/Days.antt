@@ -1,11 +1,11 @@
 -- What memberships leave on a day. Assumes nothing.
-use mathlib.Core.Path.{_≡_, refl, sym, _∙_, ap}
+use mathlib.Core.Path.{_≡_, refl, _∙_, ap}
 use mathlib.Core.List.{List, [], _∷_, _++_}
 use mathlib.Core.Bool.{Bool, true, false, cond}
 use mathlib.Core.Logic.{⊎-elim}
 use Prim.Native.Nat.{ℕ, _<_, _≤_}
 use native.Mathlib.Omega.{arith}
-use lib.Dec.{leb, ltb}
+use lib.Dec.{leb}
 use Rattle.std.proofs.shelf.Elements.{all-weaker}
 use Rattle.std.proofs.shelf.Tests.{cases-lt, le-leb, le-ltb, lt-leb, lt-ltb}
 use Rattle.std.specs.declared.option.Option.{Option}
@@ -103,18 +103,18 @@ all-both P Q R f (m ∷ ms) p q = (f m (p .0) (q .0), all-both P Q R f ms (p .1)
 all-over : (last : Option ℕ) (ms : List Membership) (day : ℕ) → Ended-before last ms → All In-order ms → Apart ms → All (λ n. n .first ≤ day → Over last day) ms
 all-over last [] day apart up aparts = tt
 all-over last (n ∷ ms) day apart up aparts = (
-      over-now last n ms day apart,
-      all-weaker (λ k. k .first ≤ day → Over (n .last) day) (λ k. k .first ≤ day → Over last day) (λ k h l. over-more last n ms day apart (up .0) (h l)) ms (all-over (n .last) ms day (aparts .0) (up .1) (aparts .1)),
-    )
+  over-now last n ms day apart,
+  all-weaker (λ k. k .first ≤ day → Over (n .last) day) (λ k. k .first ≤ day → Over last day) (λ k h l. over-more last n ms day apart (up .0) (h l)) ms (all-over (n .last) ms day (aparts .0) (up .1) (aparts .1)),
+)
 
 -- a day that a membership includes has its share
 pub inside : (day : ℕ) (ms : List Membership) → All In-order ms → Apart ms → All (λ m. Includes m day → history day None (joined written ms) ≡ Some (share-in m day)) ms
 inside day [] up apart = tt
 inside day (m ∷ ms) up apart = (
-      λ h. history-append day None (written m) (joined written ms)
+  λ h. history-append day None (written m) (joined written ms)
       ∙ (ap (λ o. history day o (joined written ms)) (in-it m day None h)
       ∙ none-yet day (Some (share-in m day)) ms (starts-later day (m .last) ms (apart .0) (h .1)) (up .1) (apart .1)),
-      all-both
+  all-both
       (λ n. Includes n day → history day None (joined written ms) ≡ Some (share-in n day))
       (λ n. n .first ≤ day → Over (m .last) day)
       (λ n. Includes n day → history day None (joined written (m ∷ ms)) ≡ Some (share-in n day))
@@ -124,7 +124,7 @@ inside day (m ∷ ms) up apart = (
       ms
       (inside day ms (up .1) (apart .1))
       (all-over (m .last) ms day (apart .0) (up .1) (apart .1)),
-    )
+)
 
 -- a membership that does not include a day from its first on is over by then
 over-since : (last : Option ℕ) (day : ℕ) → (Lasts last day → ⊥) → Over last day

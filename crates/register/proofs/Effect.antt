@@ -1,4 +1,4 @@
--- An entry that follows on a row brings its share while it is in effect.
+-- An entry that follows on a row brings its share while it is in effect. Assumes nothing.
 use mathlib.Core.Path.{_≡_, refl, sym, _∙_, ap}
 use mathlib.Core.List.{List, [], _∷_, _++_}
 use mathlib.Core.Bool.{Bool, true, false, cond, _||_}
@@ -9,9 +9,8 @@ use lib.Dec.{ltb, leb}
 use Rattle.std.proofs.shelf.Tests.{cases-bool, or-right, ltb-true, leb-true, true≢false}
 use Rattle.std.proofs.shelf.Ways.{tells}
 use Rattle.std.specs.Options.{isSome}
-use Rattle.std.specs.declared.option.Option.{Option}
 use Rattle.std.specs.declared.option.Option.the-variants.{Some, None}
-use Rattle.register.specs.Effects.{Takes-effect, brings, in-effect}
+use Rattle.register.specs.Effects.{Takes-effect, brings}
 use Rattle.register.specs.Rows.{after, follows, stands, standing-from}
 use Rattle.register.specs.Shares.{any-set-by, ended, set-by, share-on}
 use Rattle.register.specs.declared.entry.Entry.{Entry}

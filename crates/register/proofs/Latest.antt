@@ -1,10 +1,10 @@
--- Laws of the share on a day: by the last start or change dated on it or earlier.
+-- The share on a day is found by going back from the last entry. Assumes nothing.
 use mathlib.Core.Path.{_≡_, refl, sym, _∙_, ap, subst}
-use mathlib.Core.List.{List, [], _∷_, _++_}
+use mathlib.Core.List.{List, [], _∷_}
 use mathlib.Core.Bool.{Bool, true, false, cond, _||_}
 use Prim.Native.Nat.{ℕ, zero, suc, _+_, _-_, _<_, _≤_}
 use native.Mathlib.Omega.{arith}
-use lib.ListN.{length, take, drop, getD}
+use lib.ListN.{length, drop, getD}
 use Rattle.std.proofs.shelf.Lists.{drop-more, getD-take}
 use Rattle.std.proofs.shelf.Tests.{or-parts, true≢false}
 use Rattle.std.proofs.shelf.Ways.{tells}

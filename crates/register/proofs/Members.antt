@@ -1,18 +1,16 @@
 -- A row falls into memberships. Assumes nothing.
-use mathlib.Core.Path.{_≡_, refl, sym, _∙_, ap, subst}
-use mathlib.Core.List.{List, [], _∷_, _++_, append-assoc, map}
-use mathlib.Core.Bool.{Bool, true, false, cond}
-use mathlib.Core.Logic.{⊎-elim}
+use mathlib.Core.Path.{_≡_, refl, sym, _∙_, ap}
+use mathlib.Core.List.{List, [], _∷_, _++_, append-assoc}
+use mathlib.Core.Bool.{true}
 use Prim.Native.Nat.{ℕ, _<_, _≤_}
 use native.Mathlib.Omega.{arith}
-use lib.Dec.{leb, ltb}
 use Rattle.std.proofs.shelf.Elements.{all-weaker}
-use Rattle.std.proofs.shelf.Tests.{cases-lt, leb-true, ltb-true, true≢false}
+use Rattle.std.proofs.shelf.Tests.{leb-true, ltb-true, true≢false}
 use Rattle.std.proofs.shelf.Ways.{tells}
 use Rattle.std.specs.declared.option.Option.{Option}
 use Rattle.std.specs.declared.option.Option.the-variants.{Some, None}
 use Rattle.std.specs.shelf.Lists.{All, joined}
-use Rattle.register.specs.Memberships.{Apart, Ascending, Ended-before, Falls-into, In-order, Includes, Lasts, Membership, Memberships-of, changing, ending, latest, share-in, written}
+use Rattle.register.specs.Memberships.{Apart, Ascending, Ended-before, In-order, Includes, Membership, Memberships-of, changing, ending, share-in, written}
 use Rattle.register.specs.Rows.{after, follows, lawful, ordered-from}
 use Rattle.register.specs.Shares.{share-on}
 use Rattle.register.specs.declared.entry.Entry.{Entry}
@@ -66,8 +64,8 @@ changes-on before day share es low rest =
 ends-on : (before day : ℕ) (es : List Entry) → before ≤ day → Rest (Ended day) es → Rest (Open before) (End day ∷ es)
 ends-on before day es low rest =
     let none : changing (rest .changes) ++ (ending (rest .last) ++ joined written (rest .later)) ≡ joined written (rest .later) =
-      ap (λ cs. changing cs ++ (ending (rest .last) ++ joined written (rest .later))) (rest .goes-on .0)
-      ∙ ap (λ o. ending o ++ joined written (rest .later)) (rest .goes-on .1 .0) in
+    ap (λ cs. changing cs ++ (ending (rest .last) ++ joined written (rest .later))) (rest .goes-on .0)
+    ∙ ap (λ o. ending o ++ joined written (rest .later)) (rest .goes-on .1 .0) in
     record {
       changes = [];
       last = Some day;
@@ -105,9 +103,9 @@ memberships-of place row h =
     let order : ordered-from place Empty row ≡ true = grind (arith, tells) in
     let rest = rest-of place Empty row order in
     let is : row ≡ joined written (rest .later) =
-      rest .splits
-      ∙ (ap (λ cs. changing cs ++ (ending (rest .last) ++ joined written (rest .later))) (rest .goes-on .0)
-      ∙ ap (λ o. ending o ++ joined written (rest .later)) (rest .goes-on .1)) in
+    rest .splits
+    ∙ (ap (λ cs. changing cs ++ (ending (rest .last) ++ joined written (rest .later))) (rest .goes-on .0)
+    ∙ ap (λ o. ending o ++ joined written (rest .later)) (rest .goes-on .1)) in
     let told : (day : ℕ) → share-on row day ≡ history day None (joined written (rest .later)) = λ day. share-history place row day order ∙ ap (history day None) is in (
       rest .later,
       record {

@@ -5,10 +5,10 @@ ghost use mathlib.Core.List.{[], _∷_};
 ghost use mathlib.Core.Path.{_≡_};
 
 // The most entries that a row can have.
-pub const ENTRIES: usize = 16;
+pub(crate) const ENTRIES: usize = 16;
 
 // Each entry counts from a day on: a start or change from its own day, an end from the day after.
-#[derive(Clone, Copy, Debug)]
+#[derive(Clone, Copy)]
 pub enum Entry {
     Start { day: u16, share: u32 },
     Change { day: u16, share: u32 },
@@ -16,7 +16,7 @@ pub enum Entry {
 }
 
 // How a row stands by its last entry: empty, open since a day, or ended on a day.
-#[derive(Clone, Copy, Debug)]
+#[derive(Clone, Copy)]
 pub enum Standing {
     Empty,
     Open(u16),
@@ -39,7 +39,7 @@ impl Standing {
 }
 
 impl Entry {
-    pub fn day(self) -> u16
+    pub(crate) fn day(self) -> u16
         ensures { λ r. ⌜ r ≡ day-of self ⌝ }
     {
         match self {
@@ -48,7 +48,7 @@ impl Entry {
     }
 
     // The share that an entry sets; an end sets none, and 0 stands for it.
-    pub fn share(self) -> u32
+    pub(crate) fn share(self) -> u32
         ensures { λ r. ⌜ r ≡ share-of self ⌝ }
     {
         match self {
@@ -72,8 +72,8 @@ impl Entry {
         ensures { λ r. ⌜ r ≡ set-by day self ⌝ }
     {
         match self {
-            Entry::Start { day: since, share } if since <= day => Some(share),
-            Entry::Change { day: since, share } if since <= day => Some(share),
+            Entry::Start { day: since, share } | Entry::Change { day: since, share }
+                if since <= day => { Some(share) }
             _ => None,
         }
     }

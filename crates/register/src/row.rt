@@ -1,7 +1,7 @@
 // One row of the register: a place's entries, in order.
 ghost use Prim.Native.Nat.{_+_, _<_, _≤_};
 ghost use Rattle.register.specs.Rows.{Counted, entries, stands};
-ghost use Rattle.register.specs.Shares.{ended, set-by, share-on};
+ghost use Rattle.register.specs.Shares.{ended, share-on};
 ghost use lib.ListN.{drop, length};
 ghost use mathlib.Core.List.{[], _++_, _∷_};
 ghost use mathlib.Core.Path.{_≡_};
@@ -17,7 +17,7 @@ pub struct Row {
 }
 
 impl Row {
-    pub fn new() -> Row
+    pub(crate) fn new() -> Row
         ensures items { λ r. ⌜ entries r ≡ [] ⌝ }
         ensures len { λ r. ⌜ r .len ≡ 0 ⌝ }
     {
@@ -27,14 +27,14 @@ impl Row {
         }
     }
 
-    pub fn count(&self) -> usize
+    pub(crate) fn count(&self) -> usize
         requires { ⌜ Counted (now self) ⌝ }
         ensures { λ r. ⌜ r ≡ length (entries (now (self .entry))) ⌝ }
     {
         self.len
     }
 
-    pub fn standing(&self) -> Standing
+    pub(crate) fn standing(&self) -> Standing
         requires counted { ⌜ Counted (now self) ⌝ }
         requires few { ⌜ now self .len ≤ 16 ⌝ }
         ensures { λ r. ⌜ r ≡ stands (entries (now (self .entry))) ⌝ }
@@ -50,7 +50,7 @@ impl Row {
         }
     }
 
-    pub fn push(&mut self, entry: Entry)
+    pub(crate) fn push(&mut self, entry: Entry)
         requires { ⌜ now self .len < 16 ⌝ }
         ensures items { λ _. ⌜ entries (now (self .exit)) ≡ entries (now (self .entry)) ++ entry ∷ [] ⌝ }
         ensures len { λ _. ⌜ now (self .exit) .len ≡ now (self .entry) .len + 1 ⌝ }
@@ -73,7 +73,7 @@ impl Row {
     }
 
     // The share on a day, by the last start or change dated so early; none where an end came between.
-    pub fn share_on(&self, day: u16) -> Option<u32>
+    pub(crate) fn share_on(&self, day: u16) -> Option<u32>
         requires counted { ⌜ Counted (now self) ⌝ }
         requires few { ⌜ now self .len ≤ 16 ⌝ }
         ensures { λ r. ⌜ r ≡ share-on (entries (now (self .entry))) day ⌝ }

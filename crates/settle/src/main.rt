@@ -1,13 +1,16 @@
 // Settles a day's profiles in two communities, one on the other, and prints what it does as it works.
 mod day;
+mod membership;
 mod pile;
 mod profile;
 mod report;
+mod roll;
 mod summary;
 mod table;
 mod working;
 
 use crate::day::DaySums;
+use crate::membership::HALF;
 use crate::pile::Pile;
 use crate::profile::Step;
 use std::env;
@@ -16,12 +19,27 @@ use std::fs;
 
 const PROFILES: &str = "profiles.csv";
 
+// The day of the profiles: 1 November 2023.
+const DAY: u16 = 1_400;
+
 // The file with the profiles: the first argument, or the one in the folder that the program is run in.
 fn profiles_path(rt: &LibcRuntime) -> Result<String, AnyError> {
     match env::args(rt)?.nth(1) {
         Some(path) => Ok(path),
         None => Ok(String::from_str(rt.alloc(), PROFILES)?),
     }
+}
+
+// Fills the registers of both communities and takes their members on the day of the profiles.
+fn members_of_day(rt: &LibcRuntime) -> Result<Pile, AnyError> {
+    println!(rt, "\nThe register of the lower community, static key")?;
+    let lower = membership::fill(rt, &membership::lower_calls())?;
+    roll::print_members(rt, &lower, HALF)?;
+    roll::print_members(rt, &lower, DAY)?;
+    println!(rt, "The register of the upper community, dynamic key")?;
+    let upper = membership::fill(rt, &membership::upper_calls())?;
+    roll::print_members(rt, &upper, DAY)?;
+    Ok(Pile::on_day(&lower, &upper, DAY))
 }
 
 fn settle_day(rt: &LibcRuntime, pile: &Pile, steps: &[Step]) -> Result<DaySums, AnyError> {
@@ -40,8 +58,8 @@ fn run(rt: &LibcRuntime) -> Result<(), AnyError> {
     println!(rt, "Reading the profiles from {path}")?;
     let text = fs::read_to_string(rt, path.as_str())?;
     let steps = profile::parse(rt.alloc(), text.as_str())?;
-    let pile = Pile::of_profiles();
-    report::print_task(rt, &pile, steps.len())?;
+    report::print_task(rt, steps.len())?;
+    let pile = members_of_day(rt)?;
     let sums = settle_day(rt, &pile, steps.as_slice())?;
     summary::print_day(rt, &sums, steps.len())
 }

@@ -3,9 +3,11 @@ ghost use Prim.Native.Nat.{_+_, _<_, _≤_};
 ghost use Rattle.quantities.specs.Limits.{places};
 ghost use Rattle.quantities.specs.Rows.{at};
 ghost use Rattle.quantities.specs.Sums.{sum};
+ghost use Rattle.register.specs.Calls.{rows-of};
+ghost use Rattle.register.specs.Shares.{shares-on};
 ghost use Rattle.settle.specs.Left.{leftWith};
 ghost use Rattle.settle.specs.Settled.{SettledIn, SettledInBoth};
-ghost use Rattle.settle.specs.Two.{Conserves-in-both, lowerMembers, upperMembers};
+ghost use Rattle.settle.specs.Two.{Conserves-in-both};
 ghost use Rattle.settlement.specs.Laws.{Conserves};
 ghost use mathlib.Core.Path.{_≡_};
 use keys::key::Dynamic;
@@ -15,6 +17,7 @@ use keys::key::Static;
 use keys::key::StaticKey;
 use quantities::limits::DRAWING;
 use quantities::limits::PLACES;
+use register::register::Register;
 use settlement::quarter_hour::QuarterHour;
 
 // A quarter hour in one community: what the places had left, and what became of it.
@@ -26,7 +29,7 @@ pub struct Level {
     pub remainder: [u32; PLACES],
 }
 
-// The members of both communities, by their shares.
+// The members of both communities on a day, by their shares.
 #[derive(Clone, Copy)]
 pub struct Pile {
     pub lower: [Option<u32>; PLACES],
@@ -57,22 +60,13 @@ fn settle_level<K: Key>(key: &K, shares: [Option<u32>; PLACES], left: [u32; PLAC
 }
 
 impl Pile {
-    // Lower community: n1 has 40 percent, n2 30, n3 20, and g1 feeds. Upper community: n4 and n5
-    // draw, g1 and g2 feed; its key looks at draws alone, so their shares are 0.
-    pub fn of_profiles() -> Pile
-        ensures lower { λ r. ⌜ r .lower ≡ lowerMembers ⌝ }
-        ensures upper { λ r. ⌜ r .upper ≡ upperMembers ⌝ }
+    // The members of the two registers on a day.
+    pub fn on_day(lower: &Register, upper: &Register, day: u16) -> Pile
+        ensures lower { λ r. ⌜ r .lower ≡ shares-on (rows-of (now (lower .entry))) day ⌝ }
+        ensures upper { λ r. ⌜ r .upper ≡ shares-on (rows-of (now (upper .entry))) day ⌝ }
     {
-        let mut lower = [None; PLACES];
-        lower[0] = Some(400_000);
-        lower[1] = Some(300_000);
-        lower[2] = Some(200_000);
-        lower[DRAWING] = Some(0);
-        let mut upper = [None; PLACES];
-        upper[3] = Some(0);
-        upper[4] = Some(0);
-        upper[DRAWING] = Some(0);
-        upper[DRAWING + 1] = Some(0);
+        let lower = lower.shares(day);
+        let upper = upper.shares(day);
         Pile { lower, upper }
     }
 

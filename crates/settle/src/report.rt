@@ -19,46 +19,11 @@ use std::alloc::AllocError;
 use std::alloc::Global;
 use std::error::AnyError;
 
-// The name of a member's metering point, with its share where the key divides by it.
-fn member(heap: Global, place: usize, share: u32, by_share: bool) -> Result<String, AllocError> {
-    let name = point(heap, place)?;
-    if by_share && place < DRAWING {
-        let share = percent(heap, share)?;
-        format!(heap, "{name} {share}")
-    } else {
-        Ok(name)
-    }
-}
-
-fn members(
-    heap: Global,
-    shares: &[Option<u32>; PLACES],
-    by_share: bool,
-) -> Result<String, AllocError> {
-    let mut text = String::new(heap);
-    for place in 0..PLACES {
-        let share = shares[place];
-        if let Some(share) = share {
-            if !text.is_empty() {
-                text.push_str(", ")?;
-            }
-            let name = member(heap, place, share, by_share)?;
-            text.push_str(name.as_str())?;
-        }
-    }
-    Ok(text)
-}
-
-pub fn print_task(rt: &LibcRuntime, pile: &Pile, steps: usize) -> Result<(), AnyError> {
-    let heap = rt.alloc();
-    let lower = members(heap, &pile.lower, true)?;
-    let upper = members(heap, &pile.upper, false)?;
+pub fn print_task(rt: &LibcRuntime, steps: usize) -> Result<(), AnyError> {
     println!(
         rt,
         "{steps} quarter hours of {DRAWERS} drawing and {FEEDERS} feeding metering points, in watt hours (Wh)"
     )?;
-    println!(rt, "Lower community, static key:  {lower}")?;
-    println!(rt, "Upper community, dynamic key: {upper}")?;
     Ok(())
 }
 

@@ -5,7 +5,7 @@ use Rattle.quantities.specs.Sums.{sum}
 use Rattle.quantities.specs.Cut.{part, cutUpTo}
 use Rattle.quantities.specs.Shares.{corrected}
 use Rattle.settlement.specs.Quarter.{shares, draws, feeds, generated, sumsUpTo, promisedUpTo, entitlement, drawSettled, used, feedRemaining, feedSettled, settled, remaining}
-use Rattle.specimens.specs.Specimens.{Specimens, TwoCommunities, Overfull, Halves}
+use Rattle.specimens.specs.Specimens.{Specimens, TwoCommunities, Overfull, Halves, LastDay}
 
 -- all that a settlement computes with
 computes : ℕ
@@ -33,6 +33,7 @@ overfull =
       first = refl;
       second = refl;
       third = refl;
+      total = refl;
       first-share = refl;
       second-share = refl;
       third-share = refl;
@@ -42,5 +43,15 @@ halves : Halves
 unfolding computes
 halves = record { first = refl; second = refl; feed = refl }
 
+last-day : LastDay
+last-day =
+    record {
+      last-day = refl;
+      day-after = refl;
+      start-too-early = refl;
+      start-refused-with = refl;
+      start-again = refl;
+    }
+
 pub specimens : Specimens
-specimens = record { two-communities = two-communities; overfull = overfull; halves = halves }
+specimens = record { two-communities = two-communities; overfull = overfull; halves = halves; last-day = last-day }

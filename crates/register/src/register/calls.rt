@@ -1,11 +1,11 @@
 // The calls that fill a register. A refused call changes nothing.
 ghost use Prim.Native.Nat.{_<_};
-ghost use Rattle.quantities.specs.Checks.{If-accepted};
 ghost use Rattle.quantities.specs.Limits.{places};
 ghost use Rattle.register.specs.Calls.{answer, empty-rows, later, row-of, rows-of, with-entry};
 ghost use Rattle.register.specs.Effects.{Takes-effect};
 ghost use Rattle.register.specs.Memberships.{Memberships-of};
 ghost use Rattle.register.specs.Rows.{Counted, entries, lawful, most-share};
+ghost use Rattle.std.specs.Vec.{made};
 ghost use Rattle.std.specs.declared.result.Result.the-variants.{Ok};
 ghost use mathlib.Core.Bool.{true};
 ghost use mathlib.Core.Path.{_≡_};
@@ -81,7 +81,7 @@ impl Register {
     fn enter(&mut self, place: u8, entry: Entry) -> Result<(), Refusal>
         ensures answer { λ r. ⌜ r ≡ answer (rows-of (now (self .entry))) place entry ⌝ }
         ensures rows { λ _. ⌜ rows-of (now (self .exit)) ≡ later (rows-of (now (self .entry))) place entry ⌝ }
-        ensures effect { λ r. ⌜ If-accepted r (Takes-effect entry (row-of (rows-of (now (self .entry))) place) (row-of (rows-of (now (self .exit))) place)) ⌝ }
+        ensures effect { λ r. ⌜ made r (λ _. Takes-effect entry (row-of (rows-of (now (self .entry))) place) (row-of (rows-of (now (self .exit))) place)) ⌝ }
     {
         self.test(place, entry)?;
         self.put(place, entry);
@@ -92,7 +92,7 @@ impl Register {
     pub fn start(&mut self, place: u8, day: u16, share: u32) -> Result<(), Refusal>
         ensures answer { λ r. ⌜ r ≡ answer (rows-of (now (self .entry))) place (Entry.Start day share) ⌝ }
         ensures rows { λ _. ⌜ rows-of (now (self .exit)) ≡ later (rows-of (now (self .entry))) place (Entry.Start day share) ⌝ }
-        ensures effect { λ r. ⌜ If-accepted r (Takes-effect (Entry.Start day share) (row-of (rows-of (now (self .entry))) place) (row-of (rows-of (now (self .exit))) place)) ⌝ }
+        ensures effect { λ r. ⌜ made r (λ _. Takes-effect (Entry.Start day share) (row-of (rows-of (now (self .entry))) place) (row-of (rows-of (now (self .exit))) place)) ⌝ }
     {
         self.enter(place, Entry::Start { day, share })
     }
@@ -101,7 +101,7 @@ impl Register {
     pub fn change(&mut self, place: u8, day: u16, share: u32) -> Result<(), Refusal>
         ensures answer { λ r. ⌜ r ≡ answer (rows-of (now (self .entry))) place (Entry.Change day share) ⌝ }
         ensures rows { λ _. ⌜ rows-of (now (self .exit)) ≡ later (rows-of (now (self .entry))) place (Entry.Change day share) ⌝ }
-        ensures effect { λ r. ⌜ If-accepted r (Takes-effect (Entry.Change day share) (row-of (rows-of (now (self .entry))) place) (row-of (rows-of (now (self .exit))) place)) ⌝ }
+        ensures effect { λ r. ⌜ made r (λ _. Takes-effect (Entry.Change day share) (row-of (rows-of (now (self .entry))) place) (row-of (rows-of (now (self .exit))) place)) ⌝ }
     {
         self.enter(place, Entry::Change { day, share })
     }
@@ -110,7 +110,7 @@ impl Register {
     pub fn end(&mut self, place: u8, day: u16) -> Result<(), Refusal>
         ensures answer { λ r. ⌜ r ≡ answer (rows-of (now (self .entry))) place (Entry.End day) ⌝ }
         ensures rows { λ _. ⌜ rows-of (now (self .exit)) ≡ later (rows-of (now (self .entry))) place (Entry.End day) ⌝ }
-        ensures effect { λ r. ⌜ If-accepted r (Takes-effect (Entry.End day) (row-of (rows-of (now (self .entry))) place) (row-of (rows-of (now (self .exit))) place)) ⌝ }
+        ensures effect { λ r. ⌜ made r (λ _. Takes-effect (Entry.End day) (row-of (rows-of (now (self .entry))) place) (row-of (rows-of (now (self .exit))) place)) ⌝ }
     {
         self.enter(place, Entry::End { day })
     }

@@ -1,5 +1,5 @@
 // What a register tells of a day.
-ghost use Prim.Native.Nat.{_<_, _≤_, _*_};
+ghost use Prim.Native.Nat.{_<_, _≤_};
 ghost use Rattle.quantities.specs.Limits.{drawing, places, whole-share};
 ghost use Rattle.register.specs.Calls.{row-of, rows-of};
 ghost use Rattle.register.specs.Memberships.{Memberships-of};
