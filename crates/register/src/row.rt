@@ -1,8 +1,8 @@
 // One row of the register: a place's entries, in order.
 ghost use Prim.Native.Nat.{_+_, _<_, _≤_};
 ghost use Rattle.register.specs.Rows.{Counted, entries, stands};
-ghost use Rattle.register.specs.Shares.{ended, share-on};
-ghost use lib.ListN.{drop, length};
+ghost use Rattle.register.specs.Shares.{ended, set-by, share-on};
+ghost use lib.ListN.{drop, getD, length};
 ghost use mathlib.Core.List.{[], _++_, _∷_};
 ghost use mathlib.Core.Path.{_≡_};
 use crate::entry::ENTRIES;
@@ -72,6 +72,16 @@ impl Row {
         next.ends_before(day)
     }
 
+    // The share that the entry at an index sets by a day.
+    fn share_by(&self, i: usize, day: u16) -> Option<u32>
+        requires low { ⌜ i < now self .len ⌝ }
+        requires few { ⌜ now self .len ≤ 16 ⌝ }
+        ensures { λ r. ⌜ r ≡ set-by day (getD (now (self .entry) .items) i (Entry.Start 0 0)) ⌝ }
+    {
+        let entry = self.items[i];
+        entry.share_by(day)
+    }
+
     // The share on a day, by the last start or change dated so early; none where an end came between.
     pub(crate) fn share_on(&self, day: u16) -> Option<u32>
         requires counted { ⌜ Counted (now self) ⌝ }
@@ -79,8 +89,7 @@ impl Row {
         ensures { λ r. ⌜ r ≡ share-on (entries (now (self .entry))) day ⌝ }
     {
         for i in (0..self.len).rev() {
-            let entry = self.items[i];
-            if let Some(share) = entry.share_by(day) {
+            if let Some(share) = self.share_by(i, day) {
                 if self.ended_at(i + 1, day) {
                     return None;
                 }

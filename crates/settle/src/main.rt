@@ -1,4 +1,8 @@
 // Settles a day's profiles in two communities, one on the other, and prints what it does as it works.
+ghost use Rattle.settle.specs.Filled.{lowerMembers, upperMembers};
+ghost use Rattle.std.specs.Vec.{made};
+ghost use mathlib.Core.Path.{_≡_};
+
 mod day;
 mod membership;
 mod pile;
@@ -31,7 +35,9 @@ fn profiles_path(rt: &LibcRuntime) -> Result<String, AnyError> {
 }
 
 // Fills the registers of both communities and takes their members on the day of the profiles.
-fn members_of_day(rt: &LibcRuntime) -> Result<Pile, AnyError> {
+fn members_of_day(rt: &LibcRuntime) -> Result<Pile, AnyError>
+    ensures { λ r. ⌜ made r (λ pile. (pile .lower ≡ lowerMembers) × (pile .upper ≡ upperMembers)) ⌝ }
+{
     println!(rt, "\nThe register of the lower community, static key")?;
     let lower = membership::fill(rt, &membership::lower_calls())?;
     roll::print_members(rt, &lower, HALF)?;

@@ -1,6 +1,6 @@
 // The calls that fill the registers of the two communities.
 ghost use Rattle.register.specs.Calls.{answer, empty-rows, later, rows-of};
-ghost use Rattle.settle.specs.Filled.{entered};
+ghost use Rattle.settle.specs.Filled.{entered, lowerMembers, membersBy, upperMembers};
 ghost use Rattle.std.specs.Vec.{made};
 ghost use mathlib.Core.Path.{_≡_};
 use crate::roll::print_call;
@@ -28,21 +28,27 @@ pub const HALF: u16 = 1_276;
 
 const SECOND_HALF: u16 = 1_277;
 
-fn starts(place: u8, day: u16, share: u32) -> Call {
+fn starts(place: u8, day: u16, share: u32) -> Call
+    ensures { λ r. ⌜ r ≡ record { place = place; entry = Entry.Start day share } ⌝ }
+{
     Call {
         place,
         entry: Entry::Start { day, share },
     }
 }
 
-fn changes(place: u8, day: u16, share: u32) -> Call {
+fn changes(place: u8, day: u16, share: u32) -> Call
+    ensures { λ r. ⌜ r ≡ record { place = place; entry = Entry.Change day share } ⌝ }
+{
     Call {
         place,
         entry: Entry::Change { day, share },
     }
 }
 
-fn ends(place: u8, day: u16) -> Call {
+fn ends(place: u8, day: u16) -> Call
+    ensures { λ r. ⌜ r ≡ record { place = place; entry = Entry.End day } ⌝ }
+{
     Call {
         place,
         entry: Entry::End { day },
@@ -50,7 +56,9 @@ fn ends(place: u8, day: u16) -> Call {
 }
 
 // n6 cannot come back on its last day.
-pub fn lower_calls() -> [Call; 8] {
+pub fn lower_calls() -> [Call; 8]
+    ensures { λ r. ⌜ membersBy r ≡ lowerMembers ⌝ }
+{
     [
         starts(0, OPENING, 500_000),
         starts(1, OPENING, 300_000),
@@ -64,7 +72,9 @@ pub fn lower_calls() -> [Call; 8] {
 }
 
 // The key of the upper community looks at draws alone, so shares there are 0; at g2 no other is allowed.
-pub fn upper_calls() -> [Call; 5] {
+pub fn upper_calls() -> [Call; 5]
+    ensures { λ r. ⌜ membersBy r ≡ upperMembers ⌝ }
+{
     [
         starts(3, SECOND_HALF, 0),
         starts(4, SECOND_HALF, 0),
