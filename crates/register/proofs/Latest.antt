@@ -1,14 +1,14 @@
 -- The share on a day is found by going back from the last entry. Assumes nothing.
 use mathlib.Core.Path.{_≡_, refl, sym, _∙_, ap, subst}
 use mathlib.Core.List.{List, [], _∷_}
-use mathlib.Core.Bool.{Bool, true, false, cond, _||_}
+use mathlib.Core.Bool.{Bool, true, false, cond, not, _||_}
 use Prim.Native.Nat.{ℕ, zero, suc, _+_, _-_, _<_, _≤_}
 use native.Mathlib.Omega.{arith}
 use lib.ListN.{length, drop, getD}
 use Rattle.std.proofs.shelf.Lists.{drop-more, getD-take}
 use Rattle.std.proofs.shelf.Tests.{or-parts, true≢false}
 use Rattle.std.proofs.shelf.Ways.{tells}
-use Rattle.std.specs.Options.{isSome}
+use Rattle.std.specs.Options.{isSome, whenTrue}
 use Rattle.std.specs.declared.option.Option.{Option}
 use Rattle.std.specs.declared.option.Option.the-variants.{Some, None}
 use Rattle.register.specs.Rows.{Counted, entries}
@@ -20,6 +20,10 @@ use Rattle.register.specs.declared.row.Row.{Row}
 pub none-from-test : (o : Option ℕ) → isSome o ≡ false → o ≡ None
 none-from-test None h = refl
 none-from-test (Some x) h = absurd (true≢false h)
+
+when-not : (b : Bool) (x : ℕ) → whenTrue (not b) x ≡ cond b None (Some x)
+when-not true x = refl
+when-not false x = refl
 
 pub cond-same : {A : Type 0} (b : Bool) (x : A) → cond b x x ≡ x
 cond-same true x = refl
@@ -77,9 +81,11 @@ module _ (row : Row) (i day : ℕ) (d : Entry) (counted : Counted row) (low : 0 
   rest-back : any-set-by day (drop ((i - 1) + 1) (entries row)) ≡ false
   rest-back = let e : i ≡ (i - 1) + 1 = omega arith in subst (λ (n : ℕ). any-set-by day (drop n (entries row)) ≡ false) e rest
 
-  pub found-back : (share : ℕ) → Some share ≡ set-by day (getD (row .items) (i - 1) d) → share-on (entries row) day ≡ cond (ended day (drop ((i - 1) + 1) (entries row))) None (Some share)
-  found-back share sets =
-      share-found (entries row) (i - 1) day (getD (row .items) (i - 1) d) share (from-index row (i - 1) d counted (omega arith)) (sym sets) rest-back
+  pub found-back : (share : ℕ) (over : Bool) → Some share ≡ set-by day (getD (row .items) (i - 1) d) → over ≡ ended day (drop ((i - 1) + 1) (entries row)) → whenTrue (not over) share ≡ share-on (entries row) day
+  found-back share over sets test =
+      when-not over share
+      ∙ (ap (λ b. cond b None (Some share)) test
+      ∙ sym (share-found (entries row) (i - 1) day (getD (row .items) (i - 1) d) share (from-index row (i - 1) d counted (omega arith)) (sym sets) rest-back))
 
   pub none-back : None ≡ set-by day (getD (row .items) (i - 1) d) → any-set-by day (drop (i - 1) (entries row)) ≡ false
   none-back none =

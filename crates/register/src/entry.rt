@@ -1,5 +1,5 @@
 // The entries of a register, and how one follows on another.
-ghost use Rattle.register.specs.Rows.{day-of, follows, full, share-of};
+ghost use Rattle.register.specs.Rows.{after, day-of, follows, full, share-of};
 ghost use Rattle.register.specs.Shares.{ended, set-by};
 ghost use mathlib.Core.List.{[], _∷_};
 ghost use mathlib.Core.Path.{_≡_};
@@ -44,6 +44,16 @@ impl Entry {
     {
         match self {
             Entry::Start { day, .. } | Entry::Change { day, .. } | Entry::End { day } => day,
+        }
+    }
+
+    // How a row stands that ends with this entry.
+    pub(crate) fn leaves(self) -> Standing
+        ensures { λ r. ⌜ r ≡ after self ⌝ }
+    {
+        match self {
+            Entry::Start { day, .. } | Entry::Change { day, .. } => Standing::Open(day),
+            Entry::End { day } => Standing::Ended(day),
         }
     }
 

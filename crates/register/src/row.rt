@@ -43,11 +43,7 @@ impl Row {
             return Standing::Empty;
         }
         let last = self.items[self.len - 1];
-        match last {
-            Entry::Start { day, .. } => Standing::Open(day),
-            Entry::Change { day, .. } => Standing::Open(day),
-            Entry::End { day } => Standing::Ended(day),
-        }
+        last.leaves()
     }
 
     pub(crate) fn push(&mut self, entry: Entry)
@@ -90,10 +86,7 @@ impl Row {
     {
         for i in (0..self.len).rev() {
             if let Some(share) = self.share_by(i, day) {
-                if self.ended_at(i + 1, day) {
-                    return None;
-                }
-                return Some(share);
+                return (!self.ended_at(i + 1, day)).then_some(share);
             }
         }
         None

@@ -7,7 +7,7 @@ use Rattle.register.specs.Calls.{empty-rows}
 use Rattle.register.specs.Shares.{shares-on}
 use Rattle.register.specs.declared.entry.Entry.{Entry}
 use Rattle.register.specs.declared.entry.Entry.the-variants.{Start, Change, End}
-use Rattle.settle.specs.Filled.{entered, lowerMembers, membersBy, upperMembers}
+use Rattle.settle.specs.Filled.{entered, lowerMembers, membersBy, profile-day, upperMembers}
 use Rattle.settle.specs.declared.membership.Call.{Call}
 
 abbrev starts : ℕ → ℕ → ℕ → Call
@@ -28,6 +28,6 @@ unfolding membersBy
 upper-members = refl
 
 -- a register that the calls have filled has the members by these calls
-pub filled : (calls : List Call) (rows : List (List Entry)) (members : List (Option ℕ)) → rows ≡ entered empty-rows calls → membersBy calls ≡ members → shares-on rows 1400 ≡ members
+pub filled : (calls : List Call) (rows : List (List Entry)) (members : List (Option ℕ)) → rows ≡ entered empty-rows calls → membersBy calls ≡ members → shares-on rows profile-day ≡ members
 unfolding membersBy
-filled calls rows members e h = ap (λ table. shares-on table 1400) e ∙ h
+filled calls rows members e h = ap (λ table. shares-on table profile-day) e ∙ h

@@ -15,9 +15,13 @@ abbrev pub entered : List (List Entry) → List Call → List (List Entry)
 entered table [] = table
 entered table (c ∷ cs) = entered (later table (c .place) (c .entry)) cs
 
--- the members on the day of the profiles of a register that these calls fill
+-- the day of the profiles: 1 November 2023
+abbrev pub profile-day : ℕ
+profile-day = 1400
+
+-- the members on that day of a register that these calls fill
 unfoldable pub membersBy : List Call → List (Option ℕ)
-membersBy calls = shares-on (entered empty-rows calls) 1400
+membersBy calls = shares-on (entered empty-rows calls) profile-day
 
 -- the members of a community by their shares: first those of the drawing places from 0 on, then those of the feeding places
 -- from 48 on

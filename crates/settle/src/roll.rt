@@ -1,6 +1,5 @@
 // What is printed of the registers: the calls that fill them, and the members of a day.
 use crate::membership::Call;
-use crate::table::grouped;
 use crate::table::percent;
 use crate::table::point;
 use quantities::limits::DRAWING;
@@ -20,19 +19,14 @@ fn call_in_words(heap: Global, call: &Call) -> Result<String, AllocError> {
     let name = point(heap, call.place as usize)?;
     match call.entry {
         Entry::Start { day, share } => {
-            let day = grouped(heap, day as u64)?;
             let share = percent(heap, share)?;
             format!(heap, "{name} starts on day {day} with {share}")
         }
         Entry::Change { day, share } => {
-            let day = grouped(heap, day as u64)?;
             let share = percent(heap, share)?;
             format!(heap, "{name} changes on day {day} to {share}")
         }
-        Entry::End { day } => {
-            let day = grouped(heap, day as u64)?;
-            format!(heap, "{name} ends on day {day}")
-        }
+        Entry::End { day } => format!(heap, "{name} ends on day {day}"),
     }
 }
 
@@ -86,7 +80,6 @@ pub fn print_members(rt: &LibcRuntime, register: &Register, day: u16) -> Result<
         }
     }
     let total = percent(heap, register.total(day)?)?;
-    let day = grouped(heap, day as u64)?;
     println!(rt, "  On day {day}: {names}; together {total}")?;
     Ok(())
 }
