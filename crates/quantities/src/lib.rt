@@ -1,4 +1,6 @@
 // What the whole project counts with: the limits, the refusals, days, shares and the running cut.
+#![tactic(auto)]
+
 pub mod calendar;
 pub mod cut;
 pub mod limits;

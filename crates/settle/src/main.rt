@@ -1,4 +1,6 @@
 // Settles a day's profiles in two communities, one on the other, and prints what it does as it works.
+#![tactic(auto)]
+
 ghost use Rattle.settle.specs.Filled.{lower_members, upper_members};
 ghost use Rattle.std.specs.Prelude.{◌≡◌, IfOk};
 
