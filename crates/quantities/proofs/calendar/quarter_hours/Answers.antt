@@ -3,4 +3,4 @@ use Rattle.quantities.proofs.Days.{quarter_hours_is}
 use Rattle.quantities.proofs.calendar.quarter_hours.Goals as goal
 
 pub returns : goal.returns
-returns c = omega (arith, quarter_hours_is c.args.-first c.args.days)
+returns c = omega (arith, quarter_hours_is c.args._first c.args.days)
