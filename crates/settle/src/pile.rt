@@ -38,7 +38,7 @@ pub struct Levels {
 }
 
 fn settle_level<K: Key>(key: &K, shares: [Option<u32>; PLACES], left: [u32; PLACES]) -> Level
-    ensures settles { SettledIn (promised key.now) shares left result }
+    ensures settles { SettledIn (K.promised key.now) shares left result }
     ensures conserves { Conserves (at left) (at result.settled) (at result.remainder) }
 {
     let hour = QuarterHour { shares, left };

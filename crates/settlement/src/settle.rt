@@ -74,7 +74,7 @@ impl QuarterHour {
     fn entitle<K: Key>(&self, key: &K, generation: u64, whole: Sums) -> [u64; DRAWING]
         requires generation { generation ≡ generated (share_in self.now) (left_in self.now) }
         requires whole { whole ≡ sums_up_to (share_in self.now) (left_in self.now) drawing }
-        ensures { result ≡ row drawing (entitlement (promised key.now) (share_in self.now) (left_in self.now)) }
+        ensures { result ≡ row drawing (entitlement (K.promised key.now) (share_in self.now) (left_in self.now)) }
     {
         let mut running = Sums { share: 0, draw: 0 };
         let mut before: u64 = 0;
@@ -91,7 +91,7 @@ impl QuarterHour {
 
     // What the key entitles each drawing place to: its promise with the place less that before it.
     pub fn entitlements<K: Key>(&self, key: &K) -> [u64; DRAWING]
-        ensures { result ≡ row drawing (entitlement (promised key.now) (share_in self.now) (left_in self.now)) }
+        ensures { result ≡ row drawing (entitlement (K.promised key.now) (share_in self.now) (left_in self.now)) }
     {
         let generation = self.generation();
         let whole = self.whole_sums();
@@ -145,7 +145,7 @@ impl QuarterHour {
 
     // What every place settles.
     fn settled_amounts<K: Key>(&self, key: &K) -> [u32; PLACES]
-        ensures { result ≡ row places (settled (promised key.now) (share_in self.now) (left_in self.now)) }
+        ensures { result ≡ row places (settled (K.promised key.now) (share_in self.now) (left_in self.now)) }
     {
         let generation = self.generation();
         let entitled = self.entitlements(key);
@@ -157,8 +157,8 @@ impl QuarterHour {
 
     // Settles the quarter hour: what every place settles, and what remains.
     pub fn settle<K: Key>(&self, key: &K) -> Settlement
-        ensures settles { result.settled ≡ row places (settled (promised key.now) (share_in self.now) (left_in self.now)) }
-        ensures leaves { result.remainder ≡ row places (remaining (promised key.now) (share_in self.now) (left_in self.now)) }
+        ensures settles { result.settled ≡ row places (settled (K.promised key.now) (share_in self.now) (left_in self.now)) }
+        ensures leaves { result.remainder ≡ row places (remaining (K.promised key.now) (share_in self.now) (left_in self.now)) }
         ensures conserves { Conserves (left_in self.now) (at result.settled) (at result.remainder) }
         ensures laws { SettlementLaws }
     {

@@ -35,8 +35,8 @@ loop-place-init g c = (
   omega arith,
 )
 
-pub overflow-sub-entitled : goal.overflow-sub-entitled
-overflow-sub-entitled g c =
+pub overflow_sub-entitled : goal.overflow_sub-entitled
+overflow_sub-entitled g c =
     promise_grown _ _ _ (g.K.Key.lawful c.args.key.now) c.loop-place.place _ _ c.loop-place-test.true
     c.loop-place.invariant.2 (answer_next g c)
 

@@ -14,7 +14,7 @@ pub loop-place-preserved : goal.loop-place-preserved
 unfolding draws
 loop-place-preserved c =
     let q = c.args.self.now in
-    let n : c.settle-draw-amount.result ≡ min (at c.args.entitled.now c.loop-place.place) (draws (share_in q) (left_in q) c.loop-place.place) = c.settle-draw-amount.ensures ∙ ap (min (at c.args.entitled.now c.loop-place.place)) c.brought.ensures in
+    let n : c.settle_draw-amount.result ≡ min (at c.args.entitled.now c.loop-place.place) (draws (share_in q) (left_in q) c.loop-place.place) = c.settle_draw-amount.ensures ∙ ap (min (at c.args.entitled.now c.loop-place.place)) c.brought.ensures in
     let lt : c.loop-place.place < length c.loop-place.out = omega arith in (
       sum_next _ _ _ _ c.loop-place.invariant.0 n,
       below_more _ _ (λ k h. let ne : k ≢ c.loop-place.place = omega arith in rw get_or-set_other (c.loop-place.invariant.1 k h)) (rw get_or-set_same n),

@@ -8,44 +8,44 @@ use Rattle.quantities.proofs.Sums.{sum_none, sum_next}
 use Rattle.quantities.proofs.Parts.{cut_none, part_le}
 use Rattle.settlement.proofs.Steps.{cut_next, part_next, cut_grown}
 use Rattle.settlement.proofs.quarter_hour.QuarterHour.settle_feeds.Goals as goal
-use Rattle.settlement.proofs.quarter_hour.QuarterHour.settle_feeds.Goals.{After-cut-up-to-after}
+use Rattle.settlement.proofs.quarter_hour.QuarterHour.settle_feeds.Goals.{After-cut_up_to-after}
 
 -- the feeds, what they have of the surplus, and this feed's part of it
-fed_by : After-cut-up-to-after → ℕ → ℕ
+fed_by : After-cut_up_to-after → ℕ → ℕ
 fed_by c = feeds (share_in c.args.self.now) (left_in c.args.self.now)
 
-feed_is : (c : After-cut-up-to-after) → c.brought-feed.result ≡ fed_by c c.loop-i.i
+feed_is : (c : After-cut_up_to-after) → c.brought-feed.result ≡ fed_by c c.loop-i.i
 unfolding fed_by feeds
 feed_is c = c.brought-feed.ensures
 
-fed_next : (c : After-cut-up-to-after) → c.loop-i.fed + c.brought-feed.result ≡ sum (fed_by c) (c.loop-i.i + 1)
+fed_next : (c : After-cut_up_to-after) → c.loop-i.fed + c.brought-feed.result ≡ sum (fed_by c) (c.loop-i.i + 1)
 unfolding fed_by
 fed_next c = sum_next _ _ _ _ c.loop-i.invariant.0 (feed_is c)
 
-surplus_next : (c : After-cut-up-to-after) → c.cut-up-to-after.result ≡ cut_up_to c.args.surplus (fed_by c) c.args.generation (c.loop-i.i + 1)
-surplus_next c = cut_next _ (fed_by c) _ c.loop-i.i _ _ (fed_next c) c.cut-up-to-after.ensures.value
+surplus_next : (c : After-cut_up_to-after) → c.cut_up_to-after.result ≡ cut_up_to c.args.surplus (fed_by c) c.args.generation (c.loop-i.i + 1)
+surplus_next c = cut_next _ (fed_by c) _ c.loop-i.i _ _ (fed_next c) c.cut_up_to-after.ensures.value
 
-surplus_before : (c : After-cut-up-to-after) → c.loop-i.before ≡ cut_up_to c.args.surplus (fed_by c) c.args.generation c.loop-i.i
+surplus_before : (c : After-cut_up_to-after) → c.loop-i.before ≡ cut_up_to c.args.surplus (fed_by c) c.args.generation c.loop-i.i
 unfolding fed_by
 surplus_before c = c.loop-i.invariant.1
 
-part_is : (c : After-cut-up-to-after) → c.cut-up-to-after.result - c.loop-i.before ≡ part c.args.surplus (fed_by c) c.args.generation c.loop-i.i
+part_is : (c : After-cut_up_to-after) → c.cut_up_to-after.result - c.loop-i.before ≡ part c.args.surplus (fed_by c) c.args.generation c.loop-i.i
 part_is c = part_next _ (fed_by c) _ c.loop-i.i _ _ (surplus_before c) (surplus_next c)
 
 pub loop-i-init : goal.loop-i-init
 loop-i-init c = (sym (sum_none _), sym (cut_none _ _ _), below_none _, λ k h. refl, omega arith)
 
-pub overflow-sub-out : goal.overflow-sub-out
-overflow-sub-out c = cut_grown _ (fed_by c) _ c.loop-i.i _ _ (surplus_before c) (surplus_next c)
+pub overflow_sub-out : goal.overflow_sub-out
+overflow_sub-out c = cut_grown _ (fed_by c) _ c.loop-i.i _ _ (surplus_before c) (surplus_next c)
 
-pub overflow-sub-out-in-loop-i : goal.overflow-sub-out-in-loop-i
-overflow-sub-out-in-loop-i c =
+pub overflow_sub-out-in-loop-i : goal.overflow_sub-out-in-loop-i
+overflow_sub-out-in-loop-i c =
     omega (arith, part_is c, feed_is c, part_le c.args.surplus (fed_by c) c.args.generation c.loop-i.i c.requires)
 
 pub loop-i-preserved : goal.loop-i-preserved
 unfolding fed_by
 loop-i-preserved c =
-    let d = (goal.at.loop-i-preserved c).After-cut-up-to-after in
+    let d = (goal.at.loop-i-preserved c).After-cut_up_to-after in
     let n = ap₂ ◌-◌ (feed_is d) (part_is d) in
     let lt : drawing + c.loop-i.i < length c.loop-i.out = omega arith in (
       fed_next d,
