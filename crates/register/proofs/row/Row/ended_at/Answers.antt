@@ -10,6 +10,6 @@ returns-then-i-self c = sym (ap (ended c.args.day) (drop_all c.args.i (entries c
 
 pub returns : goal.returns
 returns c =
-    c.ends-before.ensures
+    c.ends_before.ensures
     ∙ (ended_first c.args.day _ _
     ∙ sym (ap (ended c.args.day) (from_index c.args.self.now c.args.i _ c.requires.counted (omega arith))))

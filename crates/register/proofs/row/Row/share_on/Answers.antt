@@ -10,11 +10,11 @@ loop-i-init c = ap (any_set_by c.args.day) (drop_all c.args.self.now.len (entrie
 
 pub returns-in-Some : goal.returns-in-Some
 returns-in-Some c =
-    c.then-some.ensures
+    c.then_some.ensures
     ∙ found_back c.args.self.now c.loop-i.i c.args.day _ c.requires.counted (omega arith) (omega arith) c.loop-i.invariant c.in-Some.share c.ended_at.result c.in-Some.ensures c.ended_at.ensures
 
 pub loop-i-preserved : goal.loop-i-preserved
-loop-i-preserved c = none_back c.args.self.now c.loop-i.i c.args.day _ c.requires.counted (omega arith) (omega arith) c.loop-i.invariant c.in-default.ensures
+loop-i-preserved c = none_back c.args.self.now c.loop-i.i c.args.day _ c.requires.counted (omega arith) (omega arith) c.loop-i.invariant c.in_default.ensures
 
 pub returns : goal.returns
 returns c =
