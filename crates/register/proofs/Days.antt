@@ -2,7 +2,7 @@
 use Rattle.std.proofs.Common.{◌≡◌, ℕ, ◌<◌, ◌≤◌, Bool, true, false, cond, leb, List, [], ◌∷◌, ◌++◌, Some, None, Option, refl, ap, ◌∙◌, ⊎_elim, arith}
 use Rattle.std.proofs.ByRecursion.{All-weaker}
 use Rattle.std.proofs.lemmas.Bool.{cases_lt, le-leb, le-ltb, lt-leb, lt-ltb}
-use Rattle.std.specs.List.{flat_map, AllByRecursion as All}
+use Rattle.std.specs.List.{flat_map, AllByRecursion}
 use Rattle.register.specs.Memberships.{Apart, Ascending, EndedBefore, InOrder, Includes, Lasts, Membership, changing, ending, latest, share_in, written}
 use Rattle.register.proofs.History.{history, history_append}
 
@@ -68,7 +68,7 @@ starts_later day None (m ∷ ms) apart h = absurd apart
 starts_later day (Some last) (m ∷ ms) apart h = omega arith
 
 -- memberships that all start after a day leave what was held
-none_yet : (day : ℕ) (held : Option ℕ) (ms : List Membership) → EndedBefore (Some day) ms → All InOrder ms → Apart ms → history day held (flat_map written ms) ≡ held
+none_yet : (day : ℕ) (held : Option ℕ) (ms : List Membership) → EndedBefore (Some day) ms → AllByRecursion InOrder ms → Apart ms → history day held (flat_map written ms) ≡ held
 none_yet day held [] h up apart = refl
 none_yet day held (m ∷ ms) h up apart =
     history_append day held (written m) (flat_map written ms)
@@ -88,11 +88,11 @@ over_now : (last : Option ℕ) (n : Membership) (ms : List Membership) (day : �
 over_now None n ms day apart h = absurd apart
 over_now (Some last) n ms day apart h = omega (arith, apart)
 
-all_both : (P Q R : Membership → Type 0) → ((m : Membership) → P m → Q m → R m) → (ms : List Membership) → All P ms → All Q ms → All R ms
+all_both : (P Q R : Membership → Type 0) → ((m : Membership) → P m → Q m → R m) → (ms : List Membership) → AllByRecursion P ms → AllByRecursion Q ms → AllByRecursion R ms
 all_both P Q R f [] p q = tt
 all_both P Q R f (m ∷ ms) p q = (f m p.0 q.0, all_both P Q R f ms p.1 q.1)
 
-all_over : (last : Option ℕ) (ms : List Membership) (day : ℕ) → EndedBefore last ms → All InOrder ms → Apart ms → All (λ n. n.first ≤ day → Over last day) ms
+all_over : (last : Option ℕ) (ms : List Membership) (day : ℕ) → EndedBefore last ms → AllByRecursion InOrder ms → Apart ms → AllByRecursion (λ n. n.first ≤ day → Over last day) ms
 all_over last [] day apart up aparts = tt
 all_over last (n ∷ ms) day apart up aparts = (
   over_now last n ms day apart,
@@ -100,7 +100,7 @@ all_over last (n ∷ ms) day apart up aparts = (
 )
 
 -- a day that a membership includes has its share
-pub inside : (day : ℕ) (ms : List Membership) → All InOrder ms → Apart ms → All (λ m. Includes m day → history day None (flat_map written ms) ≡ Some (share_in m day)) ms
+pub inside : (day : ℕ) (ms : List Membership) → AllByRecursion InOrder ms → Apart ms → AllByRecursion (λ m. Includes m day → history day None (flat_map written ms) ≡ Some (share_in m day)) ms
 inside day [] up apart = tt
 inside day (m ∷ ms) up apart = (
   λ h. history_append day None (written m) (flat_map written ms)
@@ -124,7 +124,7 @@ over_since None day h = h tt
 over_since (Some last) day h = ⊎_elim (λ (l : last < day). l) (λ (l : day ≤ last). absurd (h l)) (cases_lt last day)
 
 -- a day that none includes has no share
-pub outside : (day : ℕ) (ms : List Membership) → All InOrder ms → Apart ms → All (λ m. Includes m day → ⊥) ms → history day None (flat_map written ms) ≡ None
+pub outside : (day : ℕ) (ms : List Membership) → AllByRecursion InOrder ms → Apart ms → AllByRecursion (λ m. Includes m day → ⊥) ms → history day None (flat_map written ms) ≡ None
 outside day [] up apart none = refl
 outside day (m ∷ ms) up apart none =
     ⊎_elim

@@ -3,7 +3,7 @@ use Rattle.std.proofs.Common.{◌≡◌, ℕ, ◌<◌, ◌≤◌, true, List, []
 use Rattle.std.proofs.ByRecursion.{All-weaker}
 use Rattle.std.proofs.lemmas.Bool.{leb-true, ltb-true, true≢false}
 use Rattle.std.proofs.lemmas.Bool.Decides.{nat_tests}
-use Rattle.std.specs.List.{flat_map, AllByRecursion as All}
+use Rattle.std.specs.List.{flat_map, AllByRecursion}
 use Rattle.register.specs.Memberships.{Apart, Ascending, EndedBefore, InOrder, Includes, Membership, MembershipsOf, changing, ending, share_in, written}
 use Rattle.register.specs.Rows.{after, follows, lawful, ordered_from}
 use Rattle.register.specs.Shares.{share_on}
@@ -26,7 +26,7 @@ record Rest (s : Standing) (es : List Entry) : Type 0 where
   pub later : List Membership
   pub splits : es ≡ changing changes ++ (ending last ++ flat_map written later)
   pub goes_on : Goes_on s changes last later
-  pub in_order : All InOrder later
+  pub in_order : AllByRecursion InOrder later
   pub apart : Apart later
 
 -- a start begins a membership, to which the changes and the end after it belong

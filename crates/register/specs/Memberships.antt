@@ -1,6 +1,6 @@
 -- A row in the words of its members: from when to when a place takes part, and with which share. Assumes nothing.
 use Rattle.std.specs.Prelude.{◌≡◌, ℕ, ◌<◌, ◌≤◌, cond, List, [], ◌∷◌, ◌++◌, map, Some, None, Option, nat_le}
-use Rattle.std.specs.List.{flat_map, AllByRecursion as All}
+use Rattle.std.specs.List.{flat_map, AllByRecursion}
 use Rattle.register.specs.declared.entry.Entry.{Entry}
 use Rattle.register.specs.declared.entry.Entry.TheVariants.{Start, Change, End}
 use Rattle.register.specs.Shares.{share_on}
@@ -61,10 +61,10 @@ Apart (m ∷ ms) = EndedBefore m.last ms × Apart ms
 -- a row falls into memberships: a day that one of them includes has that one's share, and every other day has none
 pub record FallsInto (row : List Entry) (memberships : List Membership) : Type 0 where
   pub entries : row ≡ flat_map written memberships
-  pub in_order : All InOrder memberships
+  pub in_order : AllByRecursion InOrder memberships
   pub apart : Apart memberships
-  pub inside : (day : ℕ) → All (λ m. Includes m day → share_on row day ≡ Some (share_in m day)) memberships
-  pub outside : (day : ℕ) → All (λ m. Includes m day → ⊥) memberships → share_on row day ≡ None
+  pub inside : (day : ℕ) → AllByRecursion (λ m. Includes m day → share_on row day ≡ Some (share_in m day)) memberships
+  pub outside : (day : ℕ) → AllByRecursion (λ m. Includes m day → ⊥) memberships → share_on row day ≡ None
 
 abbrev pub MembershipsOf : List Entry → Type 0
 MembershipsOf row = (memberships : List Membership) × FallsInto row memberships
