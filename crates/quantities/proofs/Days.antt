@@ -1,5 +1,5 @@
 -- Laws of days and their quarter hours. Assumes nothing.
-use Rattle.std.proofs.Common.{◌≡◌, ℕ, zero, suc, ◌+◌, ◌-◌, ◌*◌, ◌/◌, ◌<◌, ◌≤◌, min, true, cond, ◌&&◌, ltb, leb, refl, ap, subst, add-zero, add-suc, arith}
+use Rattle.std.proofs.Common.{◌≡◌, ℕ, zero, suc, ◌+◌, ◌-◌, ◌*◌, ◌/◌, ◌<◌, ◌≤◌, min, true, ◌&&◌, ltb, leb, ap, arith}
 use Rattle.std.proofs.lemmas.Bool.{cond_both, leb-true, leb-false, ltb-true, and_parts}
 use Rattle.std.proofs.lemmas.Nat.{le-div, div_below}
 use Rattle.quantities.specs.Calendar.{quarters, quarter_hours, whole_days, Span, covers}

@@ -2,7 +2,7 @@
 use Rattle.std.proofs.Common.{◌≡◌, ℕ, ◌<◌, ◌≤◌, Bool, true, false, cond, ◌||◌, ltb, leb, List, [], ◌∷◌, ◌++◌, is_some, Some, None, sym, refl, ap, ◌∙◌, ⊎_elim, arith}
 use Rattle.std.proofs.lemmas.Bool.{cases_Bool, or_right, ltb-true, leb-true, true≢false}
 use Rattle.std.proofs.lemmas.Bool.Decides.{nat_tests}
-use Rattle.register.specs.Effects.{TakesEffect, brings}
+use Rattle.register.specs.Effects.{TakesEffect}
 use Rattle.register.specs.Rows.{after, follows, stands, standing_from}
 use Rattle.register.specs.Shares.{any_set_by, ended, set_by, share_on}
 use Rattle.register.specs.declared.entry.Entry.{Entry}

@@ -19,6 +19,7 @@ use crate::membership::HALF;
 use crate::pile::Pile;
 use crate::profile::Step;
 use anyhow::anyhow;
+use std::process::ExitCode;
 use std::{env, fs};
 
 const PROFILES: &str = "profiles.csv";
@@ -70,10 +71,12 @@ fn run(rt: &HostRuntime) -> anyhow::Result<()> {
     summary::print_day(rt, &sums, steps.len())
 }
 
-fn main(rt: HostRuntime) -> anyhow::Result<()> {
-    let result = run(&rt);
-    if let Err(fault) = &result {
-        let _ = eprintln!(rt; "settle: {fault}");
+fn main(rt: HostRuntime) -> ExitCode {
+    match run(&rt) {
+        Ok(()) => ExitCode::SUCCESS,
+        Err(fault) => {
+            let _ = eprintln!(rt; "settle: {fault}");
+            ExitCode::FAILURE
+        }
     }
-    result
 }

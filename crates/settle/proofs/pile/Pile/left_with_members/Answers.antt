@@ -6,4 +6,4 @@ pub loop-i-init : goal.loop-i-init
 loop-i-init c = (sym (sum_none _), omega arith)
 
 pub loop-i-preserved : goal.loop-i-preserved
-loop-i-preserved c = (sum_next _ _ _ _ c.loop-i.invariant.0 c.left-with.ensures, omega arith)
+loop-i-preserved c = (sum_next _ _ _ _ c.loop-i.invariant.0 c.left_with.ensures, omega arith)
