@@ -5,6 +5,7 @@ ghost use Rattle.std.specs.Prelude.{◌≡◌};
 // Every day has 96 quarter hours, numbered from 0.
 const QUARTERS: u8 = 96;
 
+#[tactic(auto, unfolding(crate::specs::Calendar::quarters))]
 pub fn quarters_of(_day: u16) -> u8
     ensures { result ≡ quarters _day }
 {
@@ -12,6 +13,7 @@ pub fn quarters_of(_day: u16) -> u8
 }
 
 // The quarter hours of so many days from the first on.
+#[tactic(auto, using(crate::proofs::Days::quarter_hours_is))]
 pub fn quarter_hours(_first: u16, days: u16) -> u32
     ensures { result ≡ quarter_hours _first days }
 {
@@ -19,6 +21,7 @@ pub fn quarter_hours(_first: u16, days: u16) -> u32
 }
 
 // The most days from the first on, up to a limit, that have together no more than so many quarter hours.
+#[tactic(auto, using(crate::proofs::Days::whole_days_is))]
 pub fn whole_days(_first: u16, count: usize, limit: u16) -> u16
     ensures { result ≡ whole_days _first count limit }
 {
