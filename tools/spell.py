@@ -1,7 +1,7 @@
 #!/usr/bin/env python3
 """Respells this repository's own definitions and lemmas as today's Rattle writes names: words in snake case, types and
-facts in camel case. Run once, at the top, after the kit's own script; it changes specs/, proofs/, the clauses of src/
-and the must-fail edits of specs/. Functions of src/, strings and comments keep their names.
+facts in camel case. Run once, at the top, after the kit's own script; it goes over specs/, proofs/, src/ and the
+must-fail edits of specs/. Strings and comments keep their text, and no function of src/ has a name of these lists.
 """
 
 import os
