@@ -1,4 +1,4 @@
-// Keys: how a community divides what its members feed among those that draw.
+//! Keys: how a community divides what its members feed among those that draw.
 #![tactic(auto)]
 
 pub mod key;

@@ -27,3 +27,5 @@ pub nearest_is : (n d : ℕ) → 0 < d → Nearest n d (nearest n d)
 nearest_is n d h =
     let r = rounded (2 * n + d) (2 * d) (omega arith) in
     record { not_above = r.0; not_below = omega (arith, r.1, mul-add (2 * d) (nearest n d) 1) }
+
+pub ruleset corrections = (corrected_within, corrected_above, corrected_le, nearest_is)

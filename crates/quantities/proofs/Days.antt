@@ -2,7 +2,8 @@
 use Rattle.std.proofs.Common.{◌≡◌, ℕ, zero, suc, ◌+◌, ◌-◌, ◌*◌, ◌/◌, ◌<◌, ◌≤◌, min, true, ◌&&◌, ltb, leb, ap, arith}
 use Rattle.std.proofs.lemmas.Bool.{cond_both, leb-true, leb-false, ltb-true, and_parts}
 use Rattle.std.proofs.lemmas.Nat.{le-div, div_below}
-use Rattle.quantities.specs.Calendar.{quarters, quarter_hours, whole_days, Span, covers}
+use Rattle.quantities.specs.Calendar.{quarters, quarter_hours, whole_days, covers}
+use Rattle.quantities.specs.declared.calendar.Span.{Span}
 use Rattle.quantities.proofs.Sums.{sum_none, sum_more, sum_mono}
 
 pub quarter_hours_none : (first : ℕ) → quarter_hours first 0 ≡ 0
@@ -16,6 +17,8 @@ quarter_hours_more first n = sum_more _ n
 pub quarter_hours_mono : (first a b : ℕ) → a ≤ b → quarter_hours first a ≤ quarter_hours first b
 unfolding quarter_hours
 quarter_hours_mono first a b h = sum_mono _ a b h
+
+-- What follows, up to the laws of today's days, is what a meter source over a table will ask.
 
 -- the days are no more than the limit, and have no more than so many quarter hours
 pub whole_days_le : (first count n : ℕ) → whole_days first count n ≤ n

@@ -4,3 +4,4 @@ pub mod Parts
 pub mod Listed
 pub mod Correction
 pub mod Days
+pub mod Chains

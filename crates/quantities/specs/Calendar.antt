@@ -1,6 +1,7 @@
 -- Days and their quarter hours. Assumes nothing.
 use Rattle.std.specs.Prelude.{ℕ, zero, suc, ◌+◌, Bool, cond, ◌&&◌, nat_le, nat_lt}
 use Rattle.quantities.specs.Sums.{sum}
+use Rattle.quantities.specs.declared.calendar.Span.{Span}
 
 -- how many quarter hours a day has; nothing else fixes this number
 unfoldable pub quarters : ℕ → ℕ
@@ -14,11 +15,6 @@ quarter_hours first n = sum (λ i. quarters (first + i)) n
 unfoldable pub whole_days : ℕ → ℕ → ℕ → ℕ
 whole_days first count zero = 0
 whole_days first count (suc n) = cond (nat_le (quarter_hours first (suc n)) count) (suc n) (whole_days first count n)
-
--- consecutive days: the first, and how many; where there are none, the first says nothing
-pub record Span : Type 0 where
-  pub first : ℕ
-  pub days : ℕ
 
 -- a quarter hour, by its day and its number on that day, is one of the span
 abbrev pub covers : Span → ℕ → ℕ → Bool

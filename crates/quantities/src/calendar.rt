@@ -1,9 +1,16 @@
-// Days and their quarter hours. What other crates know of their number, they know from here.
+//! Days and their quarter hours. What other crates know of their number, they know from here.
 ghost use Rattle.quantities.specs.Calendar.{covers, quarter_hours, quarters, whole_days};
 ghost use Rattle.std.specs.Prelude.{◌≡◌};
 
 // Every day has 96 quarter hours, numbered from 0.
 const QUARTERS: u8 = 96;
+
+/// Consecutive days: the first, and how many, possibly none.
+#[derive(Clone, Copy, Debug, PartialEq, Eq)]
+pub struct Span {
+    pub first: u16,
+    pub days: u16,
+}
 
 #[tactic(auto, unfolding(crate::specs::Calendar::quarters))]
 pub fn quarters_of(_day: u16) -> u8
@@ -12,25 +19,29 @@ pub fn quarters_of(_day: u16) -> u8
     QUARTERS
 }
 
-// The quarter hours of so many days from the first on.
-#[tactic(auto, using(crate::proofs::Days::quarter_hours_is))]
-pub fn quarter_hours(_first: u16, days: u16) -> u32
-    ensures { result ≡ quarter_hours _first days }
-{
-    QUARTERS as u32 * days as u32
-}
+impl Span {
+    /// The most days from the first on, up to a limit, that have together no more than so many
+    /// quarter hours.
+    #[tactic(auto, using(crate::proofs::Days::whole_days_is))]
+    pub fn of_whole_days(first: u16, count: usize, limit: u16) -> Span
+        ensures { result ≡ record { first = first; days = whole_days first count limit } }
+    {
+        // No more than the limit, so it fits.
+        let days = (count / usize::from(QUARTERS)).min(usize::from(limit)) as u16;
+        Span { first, days }
+    }
 
-// The most days from the first on, up to a limit, that have together no more than so many quarter hours.
-#[tactic(auto, using(crate::proofs::Days::whole_days_is))]
-pub fn whole_days(_first: u16, count: usize, limit: u16) -> u16
-    ensures { result ≡ whole_days _first count limit }
-{
-    (count / QUARTERS as usize).min(limit as usize) as u16
-}
+    #[tactic(auto, using(crate::proofs::Days::quarter_hours_is))]
+    pub fn quarter_hours(self) -> u32
+        ensures { result ≡ quarter_hours self.first self.days }
+    {
+        u32::from(QUARTERS) * u32::from(self.days)
+    }
 
-// Whether a quarter hour is one of the span of so many days from the first on.
-pub fn is_covered(first: u16, days: u16, day: u16, quarter: u8) -> bool
-    ensures { result ≡ covers (record { first = first; days = days }) day quarter }
-{
-    first <= day && day - first < days && quarter < quarters_of(day)
+    /// Whether a quarter hour is one of the span.
+    pub fn covers(self, day: u16, quarter: u8) -> bool
+        ensures { result ≡ covers self day quarter }
+    {
+        self.first <= day && day - self.first < self.days && quarter < quarters_of(day)
+    }
 }

@@ -1,11 +1,11 @@
-// Why a call refuses its input. Each reason has a fixed number, by which callers and files know it.
+//! Why a call refuses its input. Each reason has a fixed number, by which callers and files know it.
 ghost use Rattle.quantities.specs.Refusals.{number};
 ghost use Rattle.std.specs.Prelude.{◌≡◌};
 
 use std::error::Error;
 use std::fmt;
 
-#[derive(Clone, Copy, Debug)]
+#[derive(Clone, Copy, Debug, PartialEq, Eq, Hash)]
 pub enum Refusal {
     WrongSheetLength = 1,
     BytesEndInRecord = 2,
@@ -28,13 +28,16 @@ pub enum Refusal {
     QuarterHoursLeft = 19,
 }
 
-impl Refusal {
-    pub fn code(self) -> u8
-        ensures { result ≡ number self }
-    {
-        self as u8
-    }
+// By a cast, which is how an enum's number is read.
+impl From<Refusal> for u8 {
+    ghost from_gives = { λ refusal code. code ≡ number refusal };
 
+    fn from(refusal: Refusal) -> u8 {
+        refusal as u8
+    }
+}
+
+impl Refusal {
     // The reason in words. They may change; the number may not.
     fn reason(self) -> &'static str {
         match self {
@@ -62,11 +65,10 @@ impl Refusal {
     }
 }
 
+// Written out, since the number and the words are printed together and the number stands once.
 impl fmt::Display for Refusal {
     fn fmt<W: fmt::Write>(&self, f: &mut fmt::Formatter<W>) -> fmt::Result {
-        let code = self.code();
-        let reason = self.reason();
-        write!(f, "refusal {code}: {reason}")
+        write!(f, "refusal {}: {}", u8::from(*self), self.reason())
     }
 }
 

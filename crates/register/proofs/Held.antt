@@ -1,20 +1,30 @@
 -- A register's rows as lists: the row of a place, one row changed, and what an acceptance says. Assumes nothing.
-use Rattle.std.proofs.Common.{◌≡◌, ℕ, ◌+◌, ◌<◌, true, false, List, [], ◌∷◌, ◌++◌, map, length, get_or, set, Ok, sym, ap, ◌∙◌, subst, ⊎_elim, arith}
-use Rattle.std.proofs.lemmas.List.{get_or-map, get_or-set_other, get_or-set_same, length-map, length_push, length-set, map-set}
+use Rattle.std.proofs.Common.{◌≡◌, ℕ, ◌<◌, true, false, List, [], ◌∷◌, ◌++◌, map, length, get_or, replicate, set, Ok, sym, ap, ◌∙◌, subst, ⊎_elim, arith}
+use Rattle.std.proofs.lemmas.List.{get_or-map, get_or-replicate, get_or-set_other, get_or-set_same, length-map, length-set, map-set}
+use Rattle.std.proofs.lemmas.Simd.{map-map}
 use Rattle.std.proofs.lemmas.Bool.{cases_eq}
 use Rattle.std.proofs.lemmas.Bool.Decides.{nat_tests}
 use Rattle.quantities.specs.Limits.{places}
 use Rattle.register.specs.Calls.{answer, row_of, rows_of, with_entry}
 use Rattle.register.specs.Effects.{TakesEffect}
-use Rattle.register.specs.Rows.{Counted, entries, follows, full, lawful, stands, within}
+use Rattle.register.specs.Rows.{entries, follows, full, lawful, stands, within}
 use Rattle.register.specs.declared.entry.Entry.{Entry}
 use Rattle.register.specs.declared.register.Register.{Register}
 use Rattle.register.specs.declared.row.Row.{Row}
 use Rattle.register.proofs.Effect.{takes_effect}
-use Rattle.register.proofs.Order.{free_place, lawful_push}
+use Rattle.register.proofs.Order.{lawful_push}
+
+-- a row to read past the end of a table
+pub no_row : Row
+no_row = record { items = []; len = 0; few = omega arith }
 
 pub row_is : (rows : List Row) (place : ℕ) (d : Row) → place < length rows → entries (get_or rows place d) ≡ row_of (map entries rows) place
 row_is rows place d h = sym (get_or-map entries rows place d [] h)
+
+-- each row of a new table
+pub each_new : (n : ℕ) (row : Row) → entries row ≡ [] → (place : ℕ) (d : Row) → place < n → lawful place (entries (get_or (replicate n row) place d)) ≡ true
+each_new n row none place d low =
+    ap (λ r. lawful place (entries r)) (get_or-replicate n place row d low) ∙ ap (lawful place) none
 
 -- what holds of each row by its place holds after one row has changed
 each_set : (P : ℕ → Row → Type 0) (rows : List Row) (i : ℕ) (r : Row) → ((k : ℕ) (d : Row) → k < length rows → P k (get_or rows k d)) → P i r → (k : ℕ) (d : Row) → k < length (set rows i r) → P k (get_or (set rows i r) k d)
@@ -41,7 +51,13 @@ accepted table place entry ok = record {
   next = grind (arith, nat_tests);
 }
 
--- one entry more in one row of a register that accepts it
+-- the rows of a register after one more entry at a place
+pub record Entered (register : Register) (place : ℕ) (entry : Entry) (rows : List Row) : Type 0 where
+  pub whole : length rows ≡ places
+  pub order : (k : ℕ) (d : Row) → k < length rows → lawful k (entries (get_or rows k d)) ≡ true
+  pub table : map entries rows ≡ with_entry (rows_of register) place entry
+  pub effect : TakesEffect entry (row_of (rows_of register) place) (row_of (map entries rows) place)
+
 module _ (register : Register) (place : ℕ) (entry : Entry) (ok : answer (rows_of register) place entry ≡ Ok tt) (d : Row) where
   abbrev rows : List Row
   rows = register.rows
@@ -67,30 +83,31 @@ module _ (register : Register) (place : ℕ) (entry : Entry) (ok : answer (rows_
   order : lawful place before ≡ true
   order = register.order place d inside
 
-  pub len_below : (get_or rows place d).len < 16
-  len_below = omega (arith, register.counted place d inside, free_place place before entry order free next)
-
-  module _ (row : Row)
-      (items : entries row ≡ entries (get_or register.rows place d) ++ entry ∷ [])
-      (len : row.len ≡ (get_or register.rows place d).len + 1) where
-    pub whole_after : length (set register.rows place row) ≡ places
-    whole_after = length-set rows place row ∙ register.whole
-
-    pub counted_after : (k : ℕ) (e : Row) → k < length (set register.rows place row) → Counted (get_or (set register.rows place row) k e)
-    counted_after = each_set (λ k r. Counted r) rows place row register.counted
-        (ap length items ∙ (length_push before entry ∙ (ap (λ n. n + 1) (register.counted place d inside) ∙ sym len)))
-
-    pub order_after : (k : ℕ) (e : Row) → k < length (set register.rows place row) → lawful k (entries (get_or (set register.rows place row) k e)) ≡ true
+  module _ (row : Row) (items : entries row ≡ entries (get_or register.rows place d) ++ entry ∷ []) where
+    order_after : (k : ℕ) (e : Row) → k < length (set rows place row) → lawful k (entries (get_or (set rows place row) k e)) ≡ true
     order_after = each_set (λ k r. lawful k (entries r) ≡ true) rows place row register.order
         (ap (lawful place) items ∙ lawful_push place before entry order free next passed.limits)
 
-    pub rows_after : map entries (set register.rows place row) ≡ with_entry (rows_of register) place entry
+    rows_after : map entries (set rows place row) ≡ with_entry (rows_of register) place entry
     rows_after = map-set entries rows place row ∙ ap (set (rows_of register) place) (items ∙ ap (λ es. es ++ entry ∷ []) is)
 
-    row_after : row_of (map entries (set register.rows place row)) place ≡ row_of (rows_of register) place ++ entry ∷ []
+    row_after : row_of (map entries (set rows place row)) place ≡ row_of (rows_of register) place ++ entry ∷ []
     row_after =
         let there : place < length (rows_of register) = omega (arith, inside, length-map rows entries) in
         ap (λ table. row_of table place) rows_after ∙ get_or-set_same (rows_of register) place _ [] there
 
-    pub effect_after : TakesEffect entry (row_of (rows_of register) place) (row_of (map entries (set register.rows place row)) place)
-    effect_after = subst (TakesEffect entry (row_of (rows_of register) place)) (sym row_after) (takes_effect (row_of (rows_of register) place) entry passed.next)
+    entered_there : Entered register place entry (set register.rows place row)
+    entered_there = record {
+      whole = length-set rows place row ∙ register.whole;
+      order = order_after;
+      table = rows_after;
+      effect = subst (TakesEffect entry (row_of (rows_of register) place)) (sym row_after) (takes_effect (row_of (rows_of register) place) entry passed.next);
+    }
+
+-- an entry that the register accepts, pushed on the row at an index that is the place
+pub entered : (register : Register) (place i : ℕ) (entry : Entry) → i ≡ place → answer (rows_of register) place entry ≡ Ok tt → (d row : Row) → entries row ≡ entries (get_or register.rows i d) ++ entry ∷ [] → Entered register place entry (set register.rows i row)
+entered register place i entry same ok =
+    subst (λ (j : ℕ). (d row : Row) → entries row ≡ entries (get_or register.rows j d) ++ entry ∷ [] → Entered register place entry (set register.rows j row)) (sym same) (entered_there register place entry ok)
+
+-- a map of a map
+pub ruleset maps = (map-map)

@@ -1,5 +1,5 @@
 -- A row of the register as a list of entries, and the order in which they stand. Assumes nothing.
-use Rattle.std.specs.Prelude.{◌≡◌, ℕ, Bool, true, false, cond, ◌&&◌, List, [], ◌∷◌, length, take, nat_le, nat_lt}
+use Rattle.std.specs.Prelude.{ℕ, Bool, true, false, cond, ◌&&◌, List, [], ◌∷◌, length, take, nat_le, nat_lt}
 use Rattle.quantities.specs.Limits.{drawing, last_day, whole_share}
 use Rattle.register.specs.declared.entry.Entry.{Entry}
 use Rattle.register.specs.declared.entry.Entry.TheVariants.{Start, Change, End}
@@ -10,10 +10,6 @@ use Rattle.register.specs.declared.row.Row.{Row}
 -- the entries of a row, in order
 abbrev pub entries : Row → List Entry
 entries row = take row.len row.items
-
--- a row has as many entries as it counts
-abbrev pub Counted : Row → Type 0
-Counted row = length (entries row) ≡ row.len
 
 -- how a row stands whose last entry is this one
 abbrev pub after : Entry → Standing

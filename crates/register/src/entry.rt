@@ -1,21 +1,23 @@
-// The entries of a register, and how one follows on another.
-ghost use Rattle.register.specs.Rows.{after, day_of, follows, full, share_of};
+//! The entries of a register, and how one follows on another.
+ghost use Rattle.register.specs.Effects.{brings};
+ghost use Rattle.register.specs.Rows.{after, day_of, follows, full};
 ghost use Rattle.register.specs.Shares.{ended, set_by};
 ghost use Rattle.std.specs.Prelude.{◌≡◌, [], ◌∷◌};
 
 // The most entries that a row can have.
 pub(crate) const ENTRIES: usize = 16;
 
-// Each entry counts from a day on: a start or change from its own day, an end from the day after.
-#[derive(Clone, Copy)]
+/// Each entry counts from a day on: a start or change from its own day, an end from the day after.
+#[derive(Clone, Copy, Debug, PartialEq, Eq)]
 pub enum Entry {
     Start { day: u16, share: u32 },
     Change { day: u16, share: u32 },
     End { day: u16 },
 }
 
-// How a row stands by its last entry: empty, open since a day, or ended on a day.
-#[derive(Clone, Copy)]
+/// How a row stands by its last entry: empty, open since a day, or ended on a day. A type of its own,
+/// since the order of a row's entries is defined by it.
+#[derive(Clone, Copy, Debug, PartialEq, Eq)]
 pub enum Standing {
     Empty,
     Open(u16),
@@ -46,6 +48,16 @@ impl Entry {
         }
     }
 
+    // The share that an entry brings; an end brings none.
+    pub(crate) fn share(self) -> Option<u32>
+        ensures { result ≡ brings self }
+    {
+        match self {
+            Entry::Start { share, .. } | Entry::Change { share, .. } => Some(share),
+            Entry::End { .. } => None,
+        }
+    }
+
     // How a row stands that ends with this entry.
     pub(crate) fn leaves(self) -> Standing
         ensures { result ≡ after self }
@@ -53,16 +65,6 @@ impl Entry {
         match self {
             Entry::Start { day, .. } | Entry::Change { day, .. } => Standing::Open(day),
             Entry::End { day } => Standing::Ended(day),
-        }
-    }
-
-    // The share that an entry sets; an end sets none, and 0 stands for it.
-    pub(crate) fn share(self) -> u32
-        ensures { result ≡ share_of self }
-    {
-        match self {
-            Entry::Start { share, .. } | Entry::Change { share, .. } => share,
-            Entry::End { .. } => 0,
         }
     }
 
@@ -80,19 +82,12 @@ impl Entry {
     pub(crate) fn share_by(self, day: u16) -> Option<u32>
         ensures { result ≡ set_by day self }
     {
-        match self {
-            Entry::Start { day: since, share } | Entry::Change { day: since, share }
-                if since <= day => { Some(share) }
-            _ => None,
-        }
+        self.share().filter(|_| self.day() <= day)
     }
 
     pub(crate) fn ends_before(self, day: u16) -> bool
         ensures { result ≡ ended day (self ∷ []) }
     {
-        match self {
-            Entry::End { day: last } => last < day,
-            _ => false,
-        }
+        matches!(self, Entry::End { day: last } if last < day)
     }
 }

@@ -1,4 +1,4 @@
-// A register of shares: who takes part in a community on which day, with which share.
+//! A register of shares: who takes part in a community on which day, with which share.
 #![tactic(auto)]
 
 pub mod entry;

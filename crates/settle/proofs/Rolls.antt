@@ -7,20 +7,14 @@ use Rattle.register.specs.declared.entry.Entry.TheVariants.{Start, Change, End}
 use Rattle.settle.specs.Filled.{entered, lower_members, members_by, profile_day, upper_members}
 use Rattle.settle.specs.declared.membership.Call.{Call}
 
-abbrev starts : ℕ → ℕ → ℕ → Call
-starts place day share = record { place = place; entry = Start day share }
+abbrev call : ℕ → Entry → Call
+call place entry = record { place = place; entry = entry }
 
-abbrev changes : ℕ → ℕ → ℕ → Call
-changes place day share = record { place = place; entry = Change day share }
-
-abbrev ends : ℕ → ℕ → Call
-ends place day = record { place = place; entry = End day }
-
-pub lower_members_lem : members_by (starts 0 1096 500000 ∷ (starts 1 1096 300000 ∷ (starts 5 1096 300000 ∷ (starts 48 1096 0 ∷ (ends 5 1276 ∷ (starts 5 1276 200000 ∷ (changes 0 1277 400000 ∷ (starts 2 1277 200000 ∷ [])))))))) ≡ lower_members
+pub lower_members_lem : members_by (call 0 (Start 1096 500000) ∷ (call 1 (Start 1096 300000) ∷ (call 5 (Start 1096 300000) ∷ (call 48 (Start 1096 0) ∷ (call 5 (End 1276) ∷ (call 5 (Start 1276 200000) ∷ (call 0 (Change 1277 400000) ∷ (call 2 (Start 1277 200000) ∷ [])))))))) ≡ lower_members
 unfolding members_by
 lower_members_lem = refl
 
-pub upper_members_lem : members_by (starts 3 1277 0 ∷ (starts 4 1277 0 ∷ (starts 48 1277 0 ∷ (starts 49 1277 500000 ∷ (starts 49 1277 0 ∷ []))))) ≡ upper_members
+pub upper_members_lem : members_by (call 3 (Start 1277 0) ∷ (call 4 (Start 1277 0) ∷ (call 48 (Start 1277 0) ∷ (call 49 (Start 1277 500000) ∷ (call 49 (Start 1277 0) ∷ []))))) ≡ upper_members
 unfolding members_by
 upper_members_lem = refl
 

@@ -1,4 +1,3 @@
-pub mod Columns
 pub mod Left
 pub mod Two
 pub mod Settled

@@ -1,98 +1,68 @@
-// What is printed of the task and of each step.
-ghost use Rattle.std.specs.Prelude.{◌<◌};
-ghost use Rattle.quantities.specs.Limits.{places};
-
+//! What is printed of the task and of each step.
 use crate::pile::{Level, Levels, Pile};
 use crate::profile::{DRAWERS, FEEDERS, Step};
-use crate::table::{Cell, grouped, line, percent, point};
-use quantities::limits::{DRAWING, FEEDING, PLACES};
-use std::alloc::{AllocError, Global};
+use crate::table::{Line, OrDash, PointName, WattHours};
+use itertools::izip;
+use quantities::amounts::together;
+use quantities::limits::{DRAWING, PLACES};
+use std::io;
 
-pub fn print_task(rt: &HostRuntime, steps: usize) -> anyhow::Result<()> {
+pub fn print_task(rt: &impl Print, steps: usize) -> io::Result<()> {
     println!(rt;
         "{steps} quarter hours of {DRAWERS} drawing and {FEEDERS} feeding metering points, in watt hours (Wh)"
-    )?;
-    Ok(())
+    )
 }
 
-// A member's line: its reading, what the communities below have left of it, and what becomes of that.
-fn print_member(
-    rt: &HostRuntime,
-    place: usize,
-    readings: &[u32; PLACES],
-    level: &Level,
-) -> anyhow::Result<()>
-    requires { place < places }
-{
-    let entitlement = if place < DRAWING {
-        Cell::Amount(level.entitled[place])
-    } else {
-        Cell::Absent
-    };
-    let cells = [
-        Cell::Amount(readings[place] as u64),
-        Cell::Amount(level.left[place] as u64),
-        entitlement,
-        Cell::Amount(level.settled[place] as u64),
-        Cell::Amount(level.remainder[place] as u64),
-    ];
-    let heap = rt.alloc();
-    let name = point(heap, place)?;
-    rt.println(line(heap, name.as_str(), &cells)?)?;
-    Ok(())
-}
-
+// The members of a community: each one's reading, what the communities below have left of it, and
+// what becomes of that.
 fn print_level(
-    rt: &HostRuntime,
+    rt: &impl Print,
     name: &str,
-    shares: &[Option<u32>; PLACES],
     readings: &[u32; PLACES],
     level: &Level,
-) -> anyhow::Result<()> {
-    let columns = [
-        Cell::Heading("Reading Wh"),
-        Cell::Heading("Left below Wh"),
-        Cell::Heading("Entitlement Wh"),
-        Cell::Heading("Settled Wh"),
-        Cell::Heading("Remainder Wh"),
+) -> io::Result<()> {
+    let headings = [
+        "Reading Wh",
+        "Left below Wh",
+        "Entitlement Wh",
+        "Settled Wh",
+        "Remainder Wh",
     ];
-    rt.println(line(rt.alloc(), name, &columns)?)?;
-    for place in 0..PLACES {
-        let share = shares[place];
-        if share.is_some() {
-            print_member(rt, place, readings, level)?;
+    println!(rt; "{}", Line::new(name, &headings))?;
+    let Level { hour, settlement } = level;
+    let rows = izip!(
+        readings,
+        &hour.points,
+        &settlement.settled,
+        &settlement.remainder
+    );
+    for (place, (&reading, point, &settled, &remainder)) in rows.enumerate() {
+        if point.share.is_some() {
+            // Only places that draw are entitled to anything.
+            let entitlement = settlement.entitled.get(place).copied();
+            let cells = [
+                Some(u64::from(reading)),
+                Some(u64::from(point.left)),
+                entitlement,
+                Some(u64::from(settled)),
+                Some(u64::from(remainder)),
+            ]
+            .map(|amount| OrDash(amount.map(WattHours)));
+            println!(rt; "{}", Line::new(PointName(place), &cells))?;
         }
     }
     Ok(())
 }
 
-// What a step comes to in both communities, and what is then left with their members.
-pub fn print_step(
-    rt: &HostRuntime,
-    pile: &Pile,
-    step: &Step,
-    levels: &Levels,
-) -> anyhow::Result<()> {
-    let number = step.number;
+/// What a step comes to in both communities, and what is then left with their members.
+pub fn print_step(rt: &impl Print, pile: &Pile, step: &Step, levels: &Levels) -> io::Result<()> {
+    let Step { number, readings } = step;
     println!(rt; "\nStep {number}")?;
-    print_level(
-        rt,
-        "Lower community",
-        &pile.lower,
-        &step.readings,
-        &levels.lower,
-    )?;
-    print_level(
-        rt,
-        "Upper community",
-        &pile.upper,
-        &step.readings,
-        &levels.upper,
-    )?;
-    let heap = rt.alloc();
-    let rest = &levels.upper.remainder;
-    let supplied = grouped(heap, pile.left_with_members(rest, 0, DRAWING))?;
-    let surplus = grouped(heap, pile.left_with_members(rest, DRAWING, FEEDING))?;
-    println!(rt; "  The supplier delivers {supplied} Wh; surplus {surplus} Wh")?;
-    Ok(())
+    print_level(rt, "Lower community", readings, &levels.lower)?;
+    print_level(rt, "Upper community", readings, &levels.upper)?;
+    let left = pile.left_with_each(&levels.upper.settlement.remainder);
+    let (drawing, feeding) = left.split_at(DRAWING);
+    let supplied = WattHours(together(drawing));
+    let surplus = WattHours(together(feeding));
+    println!(rt; "  The supplier delivers {supplied} Wh; surplus {surplus} Wh")
 }

@@ -1,77 +1,68 @@
-// What is printed of the registers: the calls that fill them, and the members of a day.
+//! What is printed of the registers: the calls that fill them, and the members of a day.
 use crate::membership::Call;
-use crate::table::{percent, point};
+use crate::table::{Percent, PointName};
 use quantities::limits::{DRAWING, PLACES, WHOLE_SHARE};
 use quantities::refusal::Refusal;
-use register::entry::Entry;
+use quantities::share::corrected_share;
 use register::register::Register;
-use std::alloc::{AllocError, Global};
+use std::{fmt, io};
 
-fn call_in_words(heap: Global, call: &Call) -> Result<String, AllocError> {
-    let name = point(heap, call.place as usize)?;
-    match call.entry {
-        Entry::Start { day, share } => {
-            let share = percent(heap, share)?;
-            format!(in heap; "{name} starts on day {day} with {share}")
-        }
-        Entry::Change { day, share } => {
-            let share = percent(heap, share)?;
-            format!(in heap; "{name} changes on day {day} to {share}")
-        }
-        Entry::End { day } => format!(in heap; "{name} ends on day {day}"),
-    }
-}
-
-pub fn print_call(
-    rt: &HostRuntime,
-    call: &Call,
-    answer: Result<(), Refusal>,
-) -> anyhow::Result<()> {
-    let words = call_in_words(rt.alloc(), call)?;
+pub fn print_call(rt: &impl Print, call: &Call, answer: Result<(), Refusal>) -> io::Result<()> {
     match answer {
-        Ok(()) => println!(rt; "  {words}: accepted")?,
-        Err(refusal) => println!(rt; "  {words}: {refusal}")?,
+        Ok(()) => println!(rt; "  {call}: accepted"),
+        Err(refusal) => println!(rt; "  {call}: {refusal}"),
     }
-    Ok(())
 }
 
-// A member's name, with its share where it draws, and what that is corrected to if the day's total
+// A member: its name, with its share where it draws, and what that is corrected to if the day's total
 // is above the whole.
-fn member(
-    heap: Global,
-    register: &Register,
-    place: u8,
-    day: u16,
+#[derive(Clone, Copy, Debug, PartialEq, Eq)]
+struct Member {
+    place: usize,
     share: u32,
-) -> anyhow::Result<String> {
-    let name = point(heap, place as usize)?;
-    if (place as usize) >= DRAWING {
-        return Ok(name);
-    }
-    let percents = percent(heap, share)?;
-    match register.corrected(place, day)? {
-        Some(corrected) if register.total(day)? > WHOLE_SHARE => {
-            let corrected = percent(heap, corrected)?;
-            Ok(format!(in heap; "{name} {percents} (corrected {corrected})")?)
+    total: u32,
+}
+
+impl fmt::Display for Member {
+    fn fmt<W: fmt::Write>(&self, f: &mut fmt::Formatter<W>) -> fmt::Result {
+        write!(f, "{}", PointName(self.place))?;
+        if self.place < DRAWING {
+            write!(f, " {}", Percent(self.share))?;
+            if self.total > WHOLE_SHARE {
+                // Not by the register's question, which would add up the total again for each member.
+                let corrected = corrected_share(self.share, self.total);
+                write!(f, " (corrected {})", Percent(corrected))?;
+            }
         }
-        _ => Ok(format!(in heap; "{name} {percents}")?),
+        Ok(())
     }
 }
 
-// The members on a day, and what the shares of those that draw add up to.
-pub fn print_members(rt: &HostRuntime, register: &Register, day: u16) -> anyhow::Result<()> {
-    let heap = rt.alloc();
-    let mut names = String::new(heap);
-    for place in 0..PLACES as u8 {
-        if let Some(share) = register.share(place, day)? {
-            if !names.is_empty() {
-                names.push_str(", ")?;
-            }
-            let name = member(heap, register, place, day, share)?;
-            names.push_str(name.as_str())?;
-        }
+// The members of a day by their shares, and what the shares of those that draw add up to.
+#[derive(Clone, Copy, Debug, PartialEq, Eq)]
+struct Members {
+    shares: [Option<u32>; PLACES],
+    total: u32,
+}
+
+impl fmt::Display for Members {
+    fn fmt<W: fmt::Write>(&self, f: &mut fmt::Formatter<W>) -> fmt::Result {
+        let total = self.total;
+        let members = self.shares.iter().enumerate().filter_map(|(place, share)| {
+            share.map(|share| Member {
+                place,
+                share,
+                total,
+            })
+        });
+        f.write_joined(members, ", ")
     }
-    let total = percent(heap, register.total(day)?)?;
-    println!(rt; "  On day {day}: {names}; together {total}")?;
+}
+
+pub fn print_members(rt: &impl Print, register: &Register, day: u16) -> anyhow::Result<()> {
+    let shares = register.shares(day);
+    let total = register.total(day)?;
+    let members = Members { shares, total };
+    println!(rt; "  On day {day}: {members}; together {}", Percent(total))?;
     Ok(())
 }

@@ -1,83 +1,68 @@
-// What is printed of the whole day.
-ghost use Rattle.std.specs.Prelude.{◌+◌, ◌<◌, ◌≤◌};
-ghost use Rattle.quantities.specs.Limits.{places};
+//! What is printed of the whole day.
+ghost use Rattle.std.specs.Prelude.{◌≡◌, ◌^◌, ◌≤◌, ◌↔◌, sum, IfOk, IsErr};
 
-use crate::day::DaySums;
+use crate::day::{DaySums, SumsTooLarge};
 use crate::profile::{DRAWERS, FEEDERS};
-use crate::table::{Cell, grouped, line, point};
-use anyhow::anyhow;
-use quantities::limits::{DRAWING, FEEDING, PLACES};
+use crate::table::{Line, PointName, WattHours};
+use itertools::izip;
+use quantities::limits::{DRAWING, PLACES};
+use std::io;
 
-// The sum over so many places from the first on.
-fn total(sums: &[u64; PLACES], first: usize, count: usize) -> anyhow::Result<u64>
-    requires { first + count ≤ places }
+fn total(sums: &[u64]) -> Result<WattHours, SumsTooLarge>
+    ensures value { IfOk result (λ total. total.0 ≡ sum sums.now) }
+    ensures too_large { IsErr result ↔ (2 ^ 64 ≤ sum sums.now) }
 {
-    let mut total: u64 = 0;
-    for i in 0..count {
-        let Some(more) = total.checked_add(sums[first + i]) else {
-            return Err(anyhow!("the sums of the day are too large"));
-        };
-        total = more;
-    }
-    Ok(total)
+    sums.iter()
+        .try_fold(0u64, |total, &sum| total.checked_add(sum))
+        .map(WattHours)
+        .ok_or(SumsTooLarge)
 }
 
-// The lines of so many points from the first place on, and their totals.
-fn print_points(rt: &HostRuntime, sums: &DaySums, first: usize, count: usize) -> anyhow::Result<()>
-    requires { first + count ≤ places }
-{
-    let heap = rt.alloc();
-    for i in 0..count {
-        let place = first + i;
-        let cells = [
-            Cell::Amount(sums.metered[place]),
-            Cell::Amount(sums.lower[place]),
-            Cell::Amount(sums.upper[place]),
-            Cell::Amount(sums.remainder[place]),
-        ];
-        let name = point(heap, place)?;
-        rt.println(line(heap, name.as_str(), &cells)?)?;
+fn print_headings(rt: &impl Print, side: &str, remainder: &str) -> io::Result<()> {
+    let headings = ["Metered Wh", "Lower Wh", "Upper Wh", remainder];
+    println!(rt; "{}", Line::new(side, &headings))
+}
+
+// The lines of points by their sums, from a first place on, and their totals.
+fn print_points(rt: &impl Print, first: usize, columns: [&[u64]; 4]) -> anyhow::Result<()> {
+    let [metered, lower, upper, remainder] = columns;
+    let rows = izip!(first.., metered, lower, upper, remainder);
+    for (place, &metered, &lower, &upper, &remainder) in rows {
+        let cells = [metered, lower, upper, remainder].map(WattHours);
+        println!(rt; "{}", Line::new(PointName(place), &cells))?;
     }
     let totals = [
-        Cell::Amount(total(&sums.metered, first, count)?),
-        Cell::Amount(total(&sums.lower, first, count)?),
-        Cell::Amount(total(&sums.upper, first, count)?),
-        Cell::Amount(total(&sums.remainder, first, count)?),
+        total(metered)?,
+        total(lower)?,
+        total(upper)?,
+        total(remainder)?,
     ];
-    rt.println(line(heap, "Together", &totals)?)?;
-    Ok(())
-}
-
-fn print_headings(rt: &HostRuntime, points: &str, remainder: &'static str) -> anyhow::Result<()> {
-    let columns = [
-        Cell::Heading("Metered Wh"),
-        Cell::Heading("Lower Wh"),
-        Cell::Heading("Upper Wh"),
-        Cell::Heading(remainder),
-    ];
-    rt.println(line(rt.alloc(), points, &columns)?)?;
+    println!(rt; "{}", Line::new("Together", &totals))?;
     Ok(())
 }
 
 // What a community settled, from both sides.
-fn print_balance(rt: &HostRuntime, name: &str, settled: &[u64; PLACES]) -> anyhow::Result<()> {
-    let heap = rt.alloc();
-    let drawn = total(settled, 0, DRAWING)?;
-    let fed = total(settled, DRAWING, FEEDING)?;
-    let drawn = grouped(heap, drawn)?;
-    let fed = grouped(heap, fed)?;
+fn print_balance(rt: &impl Print, name: &str, settled: &[u64; PLACES]) -> anyhow::Result<()> {
+    let (drawing, feeding) = settled.split_at(DRAWING);
+    let drawn = total(drawing)?;
+    let fed = total(feeding)?;
     println!(rt;
         "{name} community: the drawing members take {drawn} Wh, the feeding members give {fed} Wh"
     )?;
     Ok(())
 }
 
-pub fn print_day(rt: &HostRuntime, sums: &DaySums, steps: usize) -> anyhow::Result<()> {
+pub fn print_day(rt: &impl Print, sums: &DaySums, steps: usize) -> anyhow::Result<()> {
+    let columns = [&sums.metered, &sums.lower, &sums.upper, &sums.remainder];
     println!(rt; "\nThe sums of {steps} quarter hours")?;
     print_headings(rt, "Drawing", "Supplier Wh")?;
-    print_points(rt, sums, 0, DRAWERS)?;
+    print_points(rt, 0, columns.map(|sums| &sums[..DRAWERS]))?;
     print_headings(rt, "Feeding", "Surplus Wh")?;
-    print_points(rt, sums, DRAWING, FEEDERS)?;
+    print_points(
+        rt,
+        DRAWING,
+        columns.map(|sums| &sums[DRAWING..DRAWING + FEEDERS]),
+    )?;
     println!(rt)?;
     print_balance(rt, "Lower", &sums.lower)?;
     print_balance(rt, "Upper", &sums.upper)?;

@@ -1,66 +1,103 @@
-// Tables that a person reads: aligned columns, thousands set apart by commas, shares in percent.
+//! What the tables show: amounts, shares, names of metering points, and aligned lines of these.
+ghost use Rattle.std.specs.Prelude.{◌≡◌};
+
 use quantities::limits::DRAWING;
-use std::alloc::{AllocError, Global};
+use std::fmt;
 
-// One cell of a table.
-#[derive(Clone, Copy)]
-pub enum Cell {
-    Heading(&'static str),
-    Amount(u64),
-    Absent,
+/// An amount of energy, with a comma before each group of three digits. It stands at the right end of
+/// a width.
+#[derive(Clone, Copy, Debug, PartialEq, Eq)]
+pub struct WattHours(pub u64);
+
+impl fmt::Display for WattHours {
+    fn fmt<W: fmt::Write>(&self, f: &mut fmt::Formatter<W>) -> fmt::Result {
+        let width = f.width().unwrap_or(0);
+        write_grouped(f, self.0, width)
+    }
 }
 
-// The number with a comma before each group of three digits.
-pub fn grouped(heap: Global, amount: u64) -> Result<String, AllocError> {
-    let digits = format!(in heap; "{amount}")?;
-    let bytes = digits.as_bytes();
-    let mut text = String::new(heap);
-    for (i, digit) in bytes.iter().enumerate() {
-        if i > 0 && (bytes.len() - i) % 3 == 0 {
-            text.push(',')?;
+fn write_grouped<W: fmt::Write>(
+    f: &mut fmt::Formatter<W>,
+    amount: u64,
+    width: usize,
+) -> fmt::Result {
+    if amount < 1_000 {
+        return write!(f, "{amount:>width$}");
+    }
+    // The last group takes four columns of the width.
+    write_grouped(f, amount / 1_000, width.saturating_sub(4))?;
+    write!(f, ",{:03}", amount % 1_000)
+}
+
+/// A share, which counts ten-thousandths of a percent.
+#[derive(Clone, Copy, Debug, PartialEq, Eq)]
+pub struct Percent(pub u32);
+
+impl fmt::Display for Percent {
+    fn fmt<W: fmt::Write>(&self, f: &mut fmt::Formatter<W>) -> fmt::Result {
+        let whole = self.0 / 10_000;
+        let parts = self.0 % 10_000;
+        if parts == 0 {
+            write!(f, "{whole} %")
+        } else {
+            write!(f, "{whole}.{parts:04} %")
         }
-        text.push(*digit as char)?;
-    }
-    Ok(text)
-}
-
-// A share, which counts ten-thousandths of a percent.
-pub fn percent(heap: Global, share: u32) -> Result<String, AllocError> {
-    let whole = share / 10_000;
-    let parts = share % 10_000;
-    if parts == 0 {
-        format!(in heap; "{whole} %")
-    } else {
-        format!(in heap; "{whole}.{parts:04} %")
     }
 }
 
-// The name of the metering point at a place: n1, n2 and so on draw, g1, g2 and so on feed.
-pub fn point(heap: Global, place: usize) -> Result<String, AllocError> {
-    if place < DRAWING {
-        let number = place + 1;
-        format!(in heap; "n{number}")
-    } else {
-        let number = place - DRAWING;
-        format!(in heap; "g{}", number.saturating_add(1))
+/// The name of the metering point at a place: n1, n2 and so on draw, g1, g2 and so on feed. It stands
+/// at the left end of a width.
+#[derive(Clone, Copy, Debug, PartialEq, Eq)]
+pub struct PointName(pub usize);
+
+impl fmt::Display for PointName {
+    fn fmt<W: fmt::Write>(&self, f: &mut fmt::Formatter<W>) -> fmt::Result {
+        let (letter, number) = if self.0 < DRAWING {
+            ('n', self.0 + 1)
+        } else {
+            ('g', self.0 - DRAWING + 1)
+        };
+        // The letter takes one column of the width.
+        let width = f.width().unwrap_or(0).saturating_sub(1);
+        write!(f, "{letter}{number:<width$}")
     }
 }
 
-fn shown(heap: Global, cell: Cell) -> Result<String, AllocError> {
-    match cell {
-        Cell::Heading(name) => String::from_str(heap, name),
-        Cell::Amount(amount) => grouped(heap, amount),
-        Cell::Absent => String::from_str(heap, "-"),
+/// The value, or a dash where there is none.
+#[derive(Clone, Copy, Debug, PartialEq, Eq)]
+pub struct OrDash<T>(pub Option<T>);
+
+impl<T: fmt::Display> fmt::Display for OrDash<T> {
+    fn fmt<W: fmt::Write>(&self, f: &mut fmt::Formatter<W>) -> fmt::Result {
+        match &self.0 {
+            Some(value) => value.fmt(f),
+            None => f.pad("-"),
+        }
     }
 }
 
-// A line of a table: the label on the left, the cells at the right ends of their columns.
-pub fn line(heap: Global, label: &str, cells: &[Cell]) -> Result<String, AllocError> {
-    let mut text = format!(in heap; "  {label:<16}")?;
-    for cell in cells {
-        let amount = shown(heap, *cell)?;
-        let padded = format!(in heap; "{amount:>15}")?;
-        text.push_str(padded.as_str())?;
+/// A line of a table: the label on the left, the cells at the right ends of their columns.
+#[derive(Clone, Copy, Debug, PartialEq, Eq)]
+pub struct Line<'a, L, C> {
+    pub label: L,
+    pub cells: &'a [C],
+}
+
+impl<'a, L, C> Line<'a, L, C> {
+    pub fn new(label: L, cells: &'a [C]) -> Line<'a, L, C>
+        ensures label { result.label ≡ label }
+        ensures cells { result.cells.now ≡ cells.now }
+    {
+        Line { label, cells }
     }
-    Ok(text)
+}
+
+impl<L: fmt::Display, C: fmt::Display> fmt::Display for Line<'_, L, C> {
+    fn fmt<W: fmt::Write>(&self, f: &mut fmt::Formatter<W>) -> fmt::Result {
+        write!(f, "  {:<16}", self.label)?;
+        for cell in self.cells {
+            write!(f, "{cell:>15}")?;
+        }
+        Ok(())
+    }
 }

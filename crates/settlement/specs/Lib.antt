@@ -1,3 +1,3 @@
 pub mod Quarter
 pub mod Laws
-pub mod Held
+pub mod Points

@@ -1,4 +1,4 @@
-// The settlement of one quarter hour in one community.
+//! The settlement of one quarter hour in one community.
 #![tactic(auto)]
 
 pub mod quarter_hour;

@@ -1,15 +1,14 @@
-// The calls that fill a register. A refused call changes nothing.
-ghost use Rattle.std.specs.Prelude.{◌≡◌, ◌<◌, true, Ok, OnOk};
+//! The calls that fill a register. A refused call changes nothing.
+ghost use Rattle.std.specs.Prelude.{◌≡◌, ◌<◌, ◌↔◌, IsOk, IfOk, IfErr};
 ghost use Rattle.quantities.specs.Limits.{places};
-ghost use Rattle.register.specs.Calls.{answer, empty_rows, later, row_of, rows_of, with_entry};
-ghost use Rattle.register.specs.Effects.{TakesEffect};
-ghost use Rattle.register.specs.Memberships.{MembershipsOf};
-ghost use Rattle.register.specs.Rows.{Counted, entries, lawful, most_share};
+ghost use Rattle.register.specs.Calls.{answer, empty_rows, row_of, rows_of, with_entry};
+ghost use Rattle.register.specs.Effects.{Enters, TakesEffect};
+ghost use Rattle.register.specs.Rows.{entries, most_share};
 
 use crate::entry::Entry;
 use crate::register::Register;
 use crate::row::Row;
-use quantities::limits::{PLACES, WHOLE_SHARE, is_day, is_drawing, is_place};
+use quantities::limits::{Day, PLACES, WHOLE_SHARE, is_drawing, within};
 use quantities::refusal::Refusal;
 
 // The largest share that a place may have.
@@ -20,39 +19,36 @@ fn most_share(place: u8) -> u32
 }
 
 impl Register {
-    // All rows are empty.
+    /// All rows are empty.
     pub fn new() -> Register
         ensures { rows_of result ≡ empty_rows }
     {
-        let row = Row::new();
-        let rows = [row; PLACES];
-        Register { rows }
+        Register {
+            rows: [Row::new(); PLACES],
+        }
     }
 
-    pub(crate) fn row(&self, place: u8) -> &Row
-        requires { place < places }
-        ensures items { entries result.now ≡ row_of (rows_of self.now) place }
-        ensures counted { Counted result.now }
-        ensures order { lawful place (entries result.now) ≡ true }
-        ensures memberships { MembershipsOf (row_of (rows_of self.now) place) }
+    pub(crate) fn row(&self, place: u8) -> Result<&Row, Refusal>
+        ensures low { IsOk result ↔ (place < places) }
+        ensures items { IfOk result (λ row. entries row.now ≡ row_of (rows_of self.now) place) }
+        ensures refusal { IfErr result (λ refusal. refusal ≡ Refusal.NoSuchPlace) }
     {
-        &self.rows[place as usize]
+        self.rows
+            .get(usize::from(place))
+            .ok_or(Refusal::NoSuchPlace)
     }
 
-    // The first refusal that applies to an entry.
+    // The first refusal that applies to an entry. Place and entry come apart at once here: the place
+    // finds the row, and the entry goes into it.
     fn test(&self, place: u8, entry: Entry) -> Result<(), Refusal>
         ensures { result ≡ answer (rows_of self.now) place entry }
     {
-        if !is_place(place) {
-            return Err(Refusal::NoSuchPlace);
-        }
-        if !is_day(entry.day()) {
-            return Err(Refusal::NoSuchDay);
-        }
-        if entry.share() > most_share(place) {
+        let row = self.row(place)?;
+        within::<Day>(u32::from(entry.day()))?;
+        // The limit is that of the place, and not of a kind of number.
+        if entry.share().is_some_and(|share| share > most_share(place)) {
             return Err(Refusal::ShareNotAllowed);
         }
-        let row = self.row(place);
         if entry.lacks_room(row.count()) {
             return Err(Refusal::RowFull);
         }
@@ -68,42 +64,39 @@ impl Register {
         ensures rows { rows_of self.new ≡ with_entry (rows_of self.old) place entry }
         ensures effect { TakesEffect entry (row_of (rows_of self.old) place) (row_of (rows_of self.new) place) }
     {
-        self.rows[place as usize].push(entry);
+        // In two steps: a row that is lent straight out of the register gets no proof.
+        let rows = &mut self.rows;
+        rows[usize::from(place)].push(entry);
     }
 
-    fn enter(&mut self, place: u8, entry: Entry) -> Result<(), Refusal>
-        ensures answer { result ≡ answer (rows_of self.old) place entry }
-        ensures rows { rows_of self.new ≡ later (rows_of self.old) place entry }
-        ensures effect { OnOk result (TakesEffect entry (row_of (rows_of self.old) place) (row_of (rows_of self.new) place)) }
+    /// Any call, with its entry as a value.
+    pub fn enter(&mut self, place: u8, entry: Entry) -> Result<(), Refusal>
+        ensures { Enters self.old self.new place entry result }
     {
         self.test(place, entry)?;
         self.put(place, entry);
         Ok(())
     }
 
-    // A place takes part from a day on, with a share.
+    // The three calls, by the names that the rules give them.
+
+    /// A place takes part from a day on, with a share.
     pub fn start(&mut self, place: u8, day: u16, share: u32) -> Result<(), Refusal>
-        ensures answer { result ≡ answer (rows_of self.old) place (Entry.Start day share) }
-        ensures rows { rows_of self.new ≡ later (rows_of self.old) place (Entry.Start day share) }
-        ensures effect { OnOk result (TakesEffect (Entry.Start day share) (row_of (rows_of self.old) place) (row_of (rows_of self.new) place)) }
+        ensures { Enters self.old self.new place (Entry.Start day share) result }
     {
         self.enter(place, Entry::Start { day, share })
     }
 
-    // It has another share from a day on.
+    /// It has another share from a day on.
     pub fn change(&mut self, place: u8, day: u16, share: u32) -> Result<(), Refusal>
-        ensures answer { result ≡ answer (rows_of self.old) place (Entry.Change day share) }
-        ensures rows { rows_of self.new ≡ later (rows_of self.old) place (Entry.Change day share) }
-        ensures effect { OnOk result (TakesEffect (Entry.Change day share) (row_of (rows_of self.old) place) (row_of (rows_of self.new) place)) }
+        ensures { Enters self.old self.new place (Entry.Change day share) result }
     {
         self.enter(place, Entry::Change { day, share })
     }
 
-    // It takes part up to a day, that day included.
+    /// It takes part up to a day, that day included.
     pub fn end(&mut self, place: u8, day: u16) -> Result<(), Refusal>
-        ensures answer { result ≡ answer (rows_of self.old) place (Entry.End day) }
-        ensures rows { rows_of self.new ≡ later (rows_of self.old) place (Entry.End day) }
-        ensures effect { OnOk result (TakesEffect (Entry.End day) (row_of (rows_of self.old) place) (row_of (rows_of self.new) place)) }
+        ensures { Enters self.old self.new place (Entry.End day) result }
     {
         self.enter(place, Entry::End { day })
     }

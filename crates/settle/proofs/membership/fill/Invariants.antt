@@ -4,4 +4,4 @@ use Rattle.settle.specs.Filled.{entered}
 use Rattle.settle.proofs.membership.fill.Given as goal
 
 abbrev pub invariant-loop-call : goal.invariant-loop-call
-invariant-loop-call l = entered (rows_of l.register) (drop l.call-index l.calls) ≡ entered empty_rows l.calls
+invariant-loop-call g l = entered (rows_of l.register) (drop l.call-index l.calls) ≡ entered empty_rows l.calls

@@ -1,0 +1,4 @@
+use Rattle.settle.proofs.table.+write_grouped.Given as goal
+
+abbrev pub decreases-write_grouped : goal.decreases-write_grouped
+decreases-write_grouped g l = l.amount
