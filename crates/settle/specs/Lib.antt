@@ -3,3 +3,4 @@ pub mod Two
 pub mod Settled
 pub mod Working
 pub mod Filled
+pub mod Fields
