@@ -12,10 +12,11 @@ use quantities::limits::WHOLE_SHARE;
 pub trait Key {
     ghost promised: { Self → ℕ → Sums → Sums → ℕ };
 
+    // Above the function, so that clauses and other members may cite it, as they may not cite a law below.
+    ghost lawful: { (k : Self) → KeyLaw (promised k) };
+
     fn promise(&self, division: Division, running: Sums) -> u64
         ensures { result ≡ promised self.now division.generation running division.whole };
-
-    ghost lawful: { (k : Self) → KeyLaw (promised k) };
 }
 
 /// Divides by the shares: each member has its share of the generation.

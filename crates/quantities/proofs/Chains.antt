@@ -4,7 +4,7 @@ use Rattle.std.specs.Array.{IsFromFnResult, IsFromFnResultFrom, IsMapOf, MapsFro
 use Rattle.std.specs.Fn.{Called, Mut}
 use Rattle.std.specs.List.{range_with_len, sum_by}
 use Rattle.std.proofs.lemmas.List.{get_or-map, length-map, same_lists, take_all}
-use Rattle.std.proofs.lemmas.List.FromFn.{fill_by_all}
+use Rattle.std.proofs.lemmas.List.FromFn.{fill_by_all, get_or-map-range_with_len, length-map-range_with_len}
 use Rattle.std.proofs.lemmas.List.Sums.{sum_by_more}
 use Rattle.quantities.specs.Rows.{row}
 use Rattle.quantities.specs.Sums.{sum}
@@ -34,6 +34,16 @@ module _ {F A : Type 0} (g : Mut F (ℕ × Unit {0}) A) (f : F) (h : ℕ → A) 
   map_from_fn ys n d made gives =
       fill_by_all h ys n d made.long
       (λ k low. ap (λ j. get_or ys j d) (omega arith) ∙ each_from_fn ys 0 n f (λ i. f) (λ k y q low. gives k y q (omega arith)) made.each k d low ∙ ap h (omega arith))
+
+-- what a function gives of each item, by the item or by its index
+pub map_by_index : {A B : Type 0} (f : A → B) (xs : List A) (d : A) (n : ℕ) → length xs ≡ n → map (λ k. f (get_or xs k d)) (range_with_len 0 n) ≡ map f xs
+map_by_index {B = B} f xs d n long =
+    let of : ℕ → B = λ k. f (get_or xs k d) in
+    same_lists (map of (range_with_len 0 n)) (map f xs)
+    (length-map-range_with_len of 0 n ∙ sym long ∙ sym (length-map xs f))
+    (λ k e low.
+    let inside : k < n = omega (arith, length-map-range_with_len of 0 n) in
+    get_or-map-range_with_len of 0 n k k e inside (omega arith) ∙ sym (get_or-map f xs k d e (omega (arith, long))))
 
 -- the same of numbers, as a row
 pub row_from_fn : {F : Type 0} {g : Mut F (ℕ × Unit {0}) ℕ} {f : F} (ys : List ℕ) (n : ℕ) (h : ℕ → ℕ) → IsFromFnResult g f ys n → ((k : ℕ) (y : ℕ) (q : F) → k < n → Called g f (k, tt) y q → (q ≡ f) × (y ≡ h k)) → ys ≡ row n h

@@ -11,18 +11,18 @@ use Rattle.register.specs.declared.entry.Entry.TheVariants.{Start, Change, End}
 use Rattle.register.specs.declared.entry.Standing.{Standing}
 use Rattle.register.specs.declared.entry.Standing.TheVariants.{Empty, Open, Ended}
 
-any_push : (es : List Entry) (e : Entry) (day : ℕ) → any_set_by day (es ++ e ∷ []) ≡ (any_set_by day es || is_some (set_by day e))
+pub any_push : (es : List Entry) (e : Entry) (day : ℕ) → any_set_by day (es ++ e ∷ []) ≡ (any_set_by day es || is_some (set_by day e))
 any_push [] e day = grind (arith, nat_tests)
 any_push (x ∷ es) e day = let ih = any_push es e day in grind (arith, nat_tests)
 
-ended_push : (es : List Entry) (e : Entry) (day : ℕ) → ended day (e ∷ []) ≡ false → ended day (es ++ e ∷ []) ≡ ended day es
+pub ended_push : (es : List Entry) (e : Entry) (day : ℕ) → ended day (e ∷ []) ≡ false → ended day (es ++ e ∷ []) ≡ ended day es
 ended_push [] e day h = h
 ended_push (Start since share ∷ es) e day h = refl
 ended_push (Change since share ∷ es) e day h = refl
 ended_push (End last ∷ es) e day h = refl
 
 -- not in effect: as before
-share_before : (es : List Entry) (e : Entry) (day : ℕ) → set_by day e ≡ None → ended day (e ∷ []) ≡ false → share_on (es ++ e ∷ []) day ≡ share_on es day
+pub share_before : (es : List Entry) (e : Entry) (day : ℕ) → set_by day e ≡ None → ended day (e ∷ []) ≡ false → share_on (es ++ e ∷ []) day ≡ share_on es day
 share_before [] e day none free = none
 share_before (x ∷ es) e day none free =
     let any : any_set_by day (es ++ e ∷ []) ≡ any_set_by day es = any_push es e day ∙ (ap (λ o. any_set_by day es || is_some o) none ∙ or-false (any_set_by day es)) in
@@ -33,21 +33,21 @@ share_before (x ∷ es) e day none free =
     ∙ ap (λ b. cond (any_set_by day es) (share_on es day) (cond b None (set_by day x))) end)
 
 -- a start or change in effect: its share
-share_set : (es : List Entry) (e : Entry) (day share : ℕ) → set_by day e ≡ Some share → share_on (es ++ e ∷ []) day ≡ Some share
+pub share_set : (es : List Entry) (e : Entry) (day share : ℕ) → set_by day e ≡ Some share → share_on (es ++ e ∷ []) day ≡ Some share
 share_set [] e day share h = h
 share_set (x ∷ es) e day share h =
     let any : any_set_by day (es ++ e ∷ []) ≡ true = any_push es e day ∙ (ap (λ o. any_set_by day es || is_some o) h ∙ or-true (any_set_by day es)) in
     ap (λ b. cond b (share_on (es ++ e ∷ []) day) (cond (ended day (es ++ e ∷ [])) None (set_by day x))) any ∙ share_set es e day share h
 
 -- an open row has a start or change dated as early as its last
-any_open : (x : Entry) (es : List Entry) (last day : ℕ) → standing_from (after x) es ≡ Open last → last ≤ day → any_set_by day (x ∷ es) ≡ true
+pub any_open : (x : Entry) (es : List Entry) (last day : ℕ) → standing_from (after x) es ≡ Open last → last ≤ day → any_set_by day (x ∷ es) ≡ true
 any_open (Start since share) [] last day e h = let same : since ≡ last = cc in grind (arith, nat_tests)
 any_open (Change since share) [] last day e h = let same : since ≡ last = cc in grind (arith, nat_tests)
 any_open (End z) [] last day e h = let z : ◌≡◌ {A = ℕ} 0 1 = cc in absurd (omega arith)
 any_open x (y ∷ es) last day e h = or_right (is_some (set_by day x)) (any_set_by day (y ∷ es)) (any_open y es last day e h)
 
 -- an end in effect: none
-closed : (x : Entry) (es : List Entry) (last z day : ℕ) → standing_from (after x) es ≡ Open last → last ≤ z → z < day → share_on ((x ∷ es) ++ End z ∷ []) day ≡ None
+pub closed : (x : Entry) (es : List Entry) (last z day : ℕ) → standing_from (after x) es ≡ Open last → last ≤ z → z < day → share_on ((x ∷ es) ++ End z ∷ []) day ≡ None
 closed x [] last z day e low high = grind (arith, nat_tests)
 closed x (y ∷ es) last z day e low high =
     let some : any_set_by day (y ∷ es) ≡ true = any_open y es last day e (omega arith) in
@@ -55,12 +55,12 @@ closed x (y ∷ es) last z day e low high =
     ap (λ b. cond b (share_on ((y ∷ es) ++ End z ∷ []) day) (cond (ended day ((y ∷ es) ++ End z ∷ [])) None (set_by day x))) any ∙ closed y es last z day e low high
 
 -- an end follows on an open row alone
-record OpenBy (s : Standing) (day : ℕ) : Type 0 where
+pub record OpenBy (s : Standing) (day : ℕ) : Type 0 where
   pub since : ℕ
   pub open-since : s ≡ Open since
   pub by : since ≤ day
 
-end_follows : (s : Standing) (z : ℕ) → follows s (End z) ≡ true → OpenBy s z
+pub end_follows : (s : Standing) (z : ℕ) → follows s (End z) ≡ true → OpenBy s z
 end_follows Empty z h = absurd (true≢false (sym h))
 end_follows (Open last) z h = record { since = last; open-since = refl; by = leb-true last z h }
 end_follows (Ended last) z h = absurd (true≢false (sym h))

@@ -84,11 +84,11 @@ module _ (register : Register) (place : ℕ) (entry : Entry) (ok : answer (rows_
   order = register.order place d inside
 
   module _ (row : Row) (items : entries row ≡ entries (get_or register.rows place d) ++ entry ∷ []) where
-    order_after : (k : ℕ) (e : Row) → k < length (set rows place row) → lawful k (entries (get_or (set rows place row) k e)) ≡ true
+    pub order_after : (k : ℕ) (e : Row) → k < length (set rows place row) → lawful k (entries (get_or (set rows place row) k e)) ≡ true
     order_after = each_set (λ k r. lawful k (entries r) ≡ true) rows place row register.order
         (ap (lawful place) items ∙ lawful_push place before entry order free next passed.limits)
 
-    rows_after : map entries (set rows place row) ≡ with_entry (rows_of register) place entry
+    pub rows_after : map entries (set rows place row) ≡ with_entry (rows_of register) place entry
     rows_after = map-set entries rows place row ∙ ap (set (rows_of register) place) (items ∙ ap (λ es. es ++ entry ∷ []) is)
 
     row_after : row_of (map entries (set rows place row)) place ≡ row_of (rows_of register) place ++ entry ∷ []

@@ -15,7 +15,7 @@ any_here [] e later day share sets = ap (λ o. is_some o || any_set_by day later
 any_here (x ∷ es) e later day share sets = let ih = any_here es e later day share sets in grind (arith, nat_tests)
 
 -- the last one that does
-share_found : (es : List Entry) (e : Entry) (later : List Entry) (day share : ℕ) → set_by day e ≡ Some share → any_set_by day later ≡ false → share_on (es ++ e ∷ later) day ≡ cond (ended day later) None (Some share)
+pub share_found : (es : List Entry) (e : Entry) (later : List Entry) (day share : ℕ) → set_by day e ≡ Some share → any_set_by day later ≡ false → share_on (es ++ e ∷ later) day ≡ cond (ended day later) None (Some share)
 share_found [] e later day share sets none =
     ap (λ b. cond b (share_on later day) (cond (ended day later) None (set_by day e))) none ∙ ap (λ o. cond (ended day later) None o) sets
 share_found (x ∷ es) e later day share sets none =

@@ -106,7 +106,7 @@ rest_of place s (e ∷ es) h =
     step (Ended before) (End day) f r = absurd (true≢false (sym f))
 
 -- a lawful row falls into memberships
-memberships_of : (place : ℕ) (row : List Entry) → lawful place row ≡ true → MembershipsOf row
+pub memberships_of : (place : ℕ) (row : List Entry) → lawful place row ≡ true → MembershipsOf row
 memberships_of place row h =
     let order : ordered_from place Empty row ≡ true = grind (arith, nat_tests) in
     let rest = rest_of place Empty row order in

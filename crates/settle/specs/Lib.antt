@@ -4,3 +4,4 @@ pub mod Settled
 pub mod Working
 pub mod Filled
 pub mod Fields
+pub mod Roll

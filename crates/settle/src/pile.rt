@@ -1,5 +1,5 @@
 //! Two communities, one on the other: the upper one settles what the lower one leaves.
-ghost use Rattle.std.specs.Prelude.{◌≡◌};
+ghost use Rattle.std.specs.Prelude.{◌≡◌, ◌<◌};
 ghost use Rattle.quantities.specs.Limits.{places};
 ghost use Rattle.quantities.specs.Rows.{at, row};
 ghost use Rattle.register.specs.Calls.{rows_of};
@@ -72,12 +72,17 @@ impl Pile {
     pub fn left_with_each(&self, rest: &[u32; PLACES]) -> [u32; PLACES]
         ensures { result ≡ row places (left_with self.now rest.now) }
     {
-        array::from_fn(|place| {
-            if self.lower[place].is_some() || self.upper[place].is_some() {
-                rest[place]
-            } else {
-                0
-            }
-        })
+        array::from_fn(
+            |place|
+                requires { place < places }
+                ensures { result ≡ left_with self.entry.now rest.entry.now place }
+            {
+                if self.lower[place].is_some() || self.upper[place].is_some() {
+                    rest[place]
+                } else {
+                    0
+                }
+            },
+        )
     }
 }

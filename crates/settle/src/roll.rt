@@ -1,9 +1,14 @@
 //! What is printed of the registers: the calls that fill them, and the members of a day.
+ghost use Rattle.register.specs.Calls.{rows_of};
+ghost use Rattle.register.specs.Shares.{total_answer};
+ghost use Rattle.settle.specs.Roll.{MembersOn};
+ghost use Rattle.std.specs.Prelude.{◌≡◌, Err, IfErr, IfOk};
+
 use crate::membership::Call;
 use crate::table::{Percent, PointName};
+use itertools::izip;
 use quantities::limits::{DRAWING, PLACES, WHOLE_SHARE};
 use quantities::refusal::Refusal;
-use quantities::share::corrected_share;
 use register::register::Register;
 use std::{fmt, io};
 
@@ -20,7 +25,7 @@ pub fn print_call(rt: &impl Print, call: &Call, answer: Result<(), Refusal>) -> 
 struct Member {
     place: usize,
     share: u32,
-    total: u32,
+    corrected: Option<u32>,
 }
 
 impl fmt::Display for Member {
@@ -28,9 +33,7 @@ impl fmt::Display for Member {
         write!(f, "{}", PointName(self.place))?;
         if self.place < DRAWING {
             write!(f, " {}", Percent(self.share))?;
-            if self.total > WHOLE_SHARE {
-                // Not by the register's question, which would add up the total again for each member.
-                let corrected = corrected_share(self.share, self.total);
+            if let Some(corrected) = self.corrected {
                 write!(f, " (corrected {})", Percent(corrected))?;
             }
         }
@@ -38,21 +41,43 @@ impl fmt::Display for Member {
     }
 }
 
-// The members of a day by their shares, and what the shares of those that draw add up to.
+// The members of a day by their shares, these as they count by the day's total, and that total. They are
+// the register's own answers, so what is printed of them is what its questions promise.
 #[derive(Clone, Copy, Debug, PartialEq, Eq)]
 struct Members {
     shares: [Option<u32>; PLACES],
+    corrected: [Option<u32>; PLACES],
     total: u32,
+}
+
+impl Members {
+    fn on_day(register: &Register, day: u16) -> Result<Members, Refusal>
+        ensures told { IfOk result (λ members. MembersOn (rows_of register.now) day members) }
+        ensures refusal { IfErr result (λ refusal. total_answer (rows_of register.now) day ≡ Err refusal) }
+    {
+        let total = register.total(day)?;
+        let mut corrected = [None; PLACES];
+        // By place, since each answer may refuse. The count of places fits a place's type.
+        for place in 0..PLACES as u8 {
+            corrected[usize::from(place)] = register.corrected(place, day)?;
+        }
+        Ok(Members {
+            shares: register.shares(day),
+            corrected,
+            total,
+        })
+    }
 }
 
 impl fmt::Display for Members {
     fn fmt<W: fmt::Write>(&self, f: &mut fmt::Formatter<W>) -> fmt::Result {
-        let total = self.total;
-        let members = self.shares.iter().enumerate().filter_map(|(place, share)| {
+        let scaled = self.total > WHOLE_SHARE;
+        let rows = izip!(&self.shares, &self.corrected).enumerate();
+        let members = rows.filter_map(|(place, (share, corrected))| {
             share.map(|share| Member {
                 place,
                 share,
-                total,
+                corrected: corrected.filter(|_| scaled),
             })
         });
         f.write_joined(members, ", ")
@@ -60,9 +85,10 @@ impl fmt::Display for Members {
 }
 
 pub fn print_members(rt: &impl Print, register: &Register, day: u16) -> anyhow::Result<()> {
-    let shares = register.shares(day);
-    let total = register.total(day)?;
-    let members = Members { shares, total };
-    println!(rt; "  On day {day}: {members}; together {}", Percent(total))?;
+    let members = Members::on_day(register, day)?;
+    println!(rt;
+        "  On day {day}: {members}; together {}",
+        Percent(members.total)
+    )?;
     Ok(())
 }

@@ -1,7 +1,7 @@
 //! A quarter hour in a community, before and after it is settled.
 ghost use Rattle.std.specs.Prelude.{◌≡◌, ◌<◌, ◌^◌, drop, length, take};
 ghost use Rattle.std.specs.List.{sum_by};
-ghost use Rattle.quantities.specs.Limits.{drawing, feeding};
+ghost use Rattle.quantities.specs.Limits.{drawing, feeding, places};
 ghost use Rattle.quantities.specs.Rows.{at, maybe_at};
 ghost use Rattle.settlement.specs.Points.{brings, left_in, share_in, weight};
 
@@ -77,10 +77,18 @@ impl QuarterHour {
         ensures left { left_in result ≡ at left.now }
     {
         QuarterHour {
-            points: array::from_fn(|place| Point {
-                share: shares[place],
-                left: left[place],
-            }),
+            points: array::from_fn(
+                |place|
+                    requires { place < places }
+                    ensures share { result.share ≡ maybe_at shares.entry.now place }
+                    ensures left { result.left ≡ at left.entry.now place }
+                {
+                    Point {
+                        share: shares[place],
+                        left: left[place],
+                    }
+                },
+            ),
         }
     }
 

@@ -111,7 +111,13 @@ impl QuarterHour {
         requires { (p : ℕ) → p < places → at settled.now p ≤ left_in self.now p }
         ensures { result ≡ row places (λ p. left_in self.now p - at settled.now p) }
     {
-        array::from_fn(|place| self.points[place].left - settled[place])
+        array::from_fn(
+            |place|
+                requires inside { place < places }
+                requires enough { at settled.now place ≤ left_in self.now place }
+                ensures { result ≡ left_in self.entry.now place - at settled.entry.now place }
+            { self.points[place].left - settled[place] },
+        )
     }
 
     /// Settles the quarter hour: the entitlements, what every place settles, and what remains.

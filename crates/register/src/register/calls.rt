@@ -8,7 +8,7 @@ ghost use Rattle.register.specs.Rows.{entries, most_share};
 use crate::entry::Entry;
 use crate::register::Register;
 use crate::row::Row;
-use quantities::limits::{Day, PLACES, WHOLE_SHARE, is_drawing, within};
+use quantities::limits::{Day, PLACES, Place, WHOLE_SHARE, is_drawing, within};
 use quantities::refusal::Refusal;
 
 // The largest share that a place may have.
@@ -33,9 +33,8 @@ impl Register {
         ensures items { IfOk result (λ row. entries row.now ≡ row_of (rows_of self.now) place) }
         ensures refusal { IfErr result (λ refusal. refusal ≡ Refusal.NoSuchPlace) }
     {
-        self.rows
-            .get(usize::from(place))
-            .ok_or(Refusal::NoSuchPlace)
+        within::<Place>(u32::from(place))?;
+        Ok(&self.rows[usize::from(place)])
     }
 
     // The first refusal that applies to an entry. Place and entry come apart at once here: the place

@@ -11,13 +11,18 @@ use crate::row::Row;
 use quantities::limits::{DRAWING, Day, PLACES, within};
 use quantities::refusal::Refusal;
 use quantities::share::corrected_share;
+use std::array;
 
-// The shares of rows on a day, place by place. The rows are copied: over borrowed ones, as a function
-// of the place, the proof did not close.
-fn shares_of(rows: [Row; PLACES], day: u16) -> [Option<u32>; PLACES]
-    ensures { result ≡ map (λ row. share_on (entries row) day) rows }
+// The shares of rows on a day, place by place.
+fn shares_of(rows: &[Row; PLACES], day: u16) -> [Option<u32>; PLACES]
+    ensures { result ≡ shares_on (map entries rows.now) day }
 {
-    rows.map(|row| row.share_on(day))
+    array::from_fn(
+        |place|
+            requires { place < places }
+            ensures { result ≡ share_on (row_of (map entries rows.entry.now) place) day }
+        { rows[place].share_on(day) },
+    )
 }
 
 // What the shares of rows on a day add up to.
@@ -69,6 +74,6 @@ impl Register {
         ensures shares { result ≡ shares_on (rows_of self.now) day }
         ensures memberships { (place : ℕ) → place < places → MembershipsOf (row_of (rows_of self.now) place) }
     {
-        shares_of(self.rows, day)
+        shares_of(&self.rows, day)
     }
 }

@@ -40,7 +40,7 @@ pub loop-place-init : goal.loop-place-init
 loop-place-init g c = record {
   share = c.default-running.ensures.0 ∙ sym (sum_none _);
   draw = c.default-running.ensures.1 ∙ sym (sum_none _);
-  before = sym (up_to_none _ (g.met.K.Key.lawful c.args.key.now) _ _);
+  before = sym (up_to_none _ (g.K.Key.lawful c.args.key.now) _ _);
   entitled = below_none _;
   long = refl;
   share_fits = omega (arith, c.default-running.ensures.0);
@@ -51,7 +51,7 @@ pub overflow_sub-entitled : goal.overflow_sub-entitled
 unfolding promised_in
 overflow_sub-entitled g c =
     step_grows (promised_in g c) c.loop-place.place _ _ c.loop-place.invariant.before (answer_next g c)
-    (up_to_grows (g.K.Key.promised c.args.key.now) (g.met.K.Key.lawful c.args.key.now) (share_in c.args.self.now) (left_in c.args.self.now) c.loop-place.place (low g c))
+    (up_to_grows (g.K.Key.promised c.args.key.now) (g.K.Key.lawful c.args.key.now) (share_in c.args.self.now) (left_in c.args.self.now) c.loop-place.place (low g c))
 
 pub loop-place-preserved : goal.loop-place-preserved
 unfolding entitlement promised_in
