@@ -1,7 +1,6 @@
 -- A register's rows as lists: the row of a place, one row changed, and what an acceptance says. Assumes nothing.
 use Rattle.std.proofs.Common.{◌≡◌, ℕ, ◌<◌, true, false, List, [], ◌∷◌, ◌++◌, map, length, get_or, replicate, set, Ok, sym, ap, ◌∙◌, subst, ⊎_elim, arith}
 use Rattle.std.proofs.lemmas.List.{get_or-map, get_or-replicate, get_or-set_other, get_or-set_same, length-map, length-set, map-set}
-use Rattle.std.proofs.lemmas.Simd.{map-map}
 use Rattle.std.proofs.lemmas.Bool.{cases_eq}
 use Rattle.std.proofs.lemmas.Bool.Decides.{nat_tests}
 use Rattle.quantities.specs.Limits.{places}
@@ -108,6 +107,3 @@ module _ (register : Register) (place : ℕ) (entry : Entry) (ok : answer (rows_
 pub entered : (register : Register) (place i : ℕ) (entry : Entry) → i ≡ place → answer (rows_of register) place entry ≡ Ok tt → (d row : Row) → entries row ≡ entries (get_or register.rows i d) ++ entry ∷ [] → Entered register place entry (set register.rows i row)
 entered register place i entry same ok =
     subst (λ (j : ℕ). (d row : Row) → entries row ≡ entries (get_or register.rows j d) ++ entry ∷ [] → Entered register place entry (set register.rows j row)) (sym same) (entered_there register place entry ok)
-
--- a map of a map
-pub ruleset maps = (map-map)

@@ -41,8 +41,8 @@ impl fmt::Display for Member {
     }
 }
 
-// The members of a day by their shares, these as they count by the day's total, and that total. They are
-// the register's own answers, so what is printed of them is what its questions promise.
+// The members of a day by their shares, these as they count by the day's total, and that total: the
+// register's own answers, from which the line is written.
 #[derive(Clone, Copy, Debug, PartialEq, Eq)]
 struct Members {
     shares: [Option<u32>; PLACES],

@@ -69,7 +69,7 @@ impl Register {
     }
 
     /// The shares of all places on a day.
-    #[tactic(auto, using(crate::proofs::Held::maps, crate::proofs::Members::memberships_in))]
+    #[tactic(auto, using(crate::proofs::Members::memberships_in))]
     pub fn shares(&self, day: u16) -> [Option<u32>; PLACES]
         ensures shares { result ≡ shares_on (rows_of self.now) day }
         ensures memberships { (place : ℕ) → place < places → MembershipsOf (row_of (rows_of self.now) place) }
